@@ -1427,7 +1427,7 @@ shows "turns of calls and of a loop, by task" 0 "$(printf '%s / ' \
     "more workers can make the tasks 1.30 times as fast at most" | sed 's| / $||')" steps calls.c in.bin
 echo 'int main(void) { }' >idle.c
 shows "steps where there is no task" 0 "$(printf '%s / ' \
-    "main: 1 steps, 100.0 % of the steps of the run, 0 turns of its budget" "all tasks: 0 steps" \
+    "main: 1 step, 100.0 % of the steps of the run, 0 turns of its budget" "all tasks: 0 steps" \
     "the longest chain of activations that wait for one another: 0 steps" \
     "more workers can make the tasks 1.00 times as fast at most" | sed 's| / $||')" steps idle.c in.bin
 shows "a program that is refused, and none of whose steps are told" 3 "refused 23 line 1" steps empty.c in.bin

@@ -18,8 +18,8 @@ use std::thread::Threads;
 use task_workers::Gate;
 
 /// Runs a code over an input in epochs of at most 4,096 new activations, and of fewer where their windows are large, or the
-/// workers few: while 1 to 64 workers run one epoch, the control program creates the activations of the next one. What it comes to is the data-flow meaning of all
-/// activations that it creates.
+/// workers few: while 1 to 64 workers run one epoch, the control program creates the activations of the next one. What it comes
+/// to is the data-flow meaning of all activations that it creates.
 ///
 /// The gate is called as in `execute`, with the number of a frame in its epoch. The activations, their positions, their
 /// ends and the output are held of the whole run, a plan and its cells of one epoch at a time.

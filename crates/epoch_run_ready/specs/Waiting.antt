@@ -1,5 +1,6 @@
 -- Activations that wait for an element that can't come, by marks.
-use Rattle.std.specs.Prelude.{◌≡◌, ◌≢◌, ℕ, ◌<◌, ◌≤◌, ◌==◌, if◌then◌else◌, Bool, true, false, List, Some, Contains, length, slice_get, slice_index, slice_index_or}
+use Rattle.std.specs.Prelude.{◌≡◌, ◌≢◌, ℕ, ◌<◌, ◌≤◌, ◌==◌, if◌then◌else◌, Bool, true, false, List}
+use Rattle.std.specs.Prelude.{Some, Contains, length, slice_get, slice_index, slice_index_or}
 use Rattle.stream_match_layouts.specs.Spans.{frame_count, spans_of}
 use Rattle.stream_match_layouts.specs.Writers.{end_of, span_at}
 use Rattle.stream_match_layouts.specs.declared.layout.Layout.{Layout}

@@ -3,7 +3,8 @@ use Rattle.std.specs.Prelude.{[], ◌≡◌, ℕ, ℤ, ◌<◌, List, ◌++◌, 
 use Rattle.flow_core_laws.specs.declared.activation.Activation.{Activation}
 use Rattle.flow_core_laws.specs.Outcome.{outcome_at, ends_of}
 use Rattle.flow_core_laws.specs.Place.{Place, input_places}
-use Rattle.flow_core_epochs.specs.Epoch.{open_in, put_over, ReadNoOutput, Kept, IsKeptFor, StandsForEpoch, AreChosen, LeaveOutWaiting, IsEpoch, epoch_meaning, carried_over, IsCarried, IsOutside, IsHeld, IsHeldAfter, ServesAll, read_from}
+use Rattle.flow_core_epochs.specs.Epoch.{open_in, put_over, ReadNoOutput, Kept, IsKeptFor, StandsForEpoch, AreChosen, LeaveOutWaiting, IsEpoch}
+use Rattle.flow_core_epochs.specs.Epoch.{epoch_meaning, carried_over, IsCarried, IsOutside, IsHeld, IsHeldAfter, ServesAll, read_from}
 use Rattle.flow_core_laws.specs.declared.elem.Elem.{Elem}
 use Rattle.flow_core_laws.specs.declared.plan.Plan.{Plan}
 use Rattle.flow_core_laws.specs.declared.outcome.Outcome.{Outcome}

@@ -8,7 +8,8 @@ ghost use Rattle.flow_core_laws.specs.Outcome.{outcome_of};
 ghost use Rattle.flow_core_laws.specs.Streams.{stream_meaning};
 ghost use Rattle.flow_core_laws.specs.IsSound.{IsSound};
 ghost use Rattle.flow_core_epochs.specs.Example as example;
-ghost use Rattle.flow_core_epochs.specs.Laws.{KeepsPrefixes, AddsUp, FramesEnd, SinkIsWhatLeaves, ReadsLieBehind, NothingAtFirst, ServesNext, CarriesOver, OutputStays, HeldAtFirst, BeginsEpoch, EndsEpoch, ServesFrames, WaitingGetsNone, AllLeaveOutNothing};
+ghost use Rattle.flow_core_epochs.specs.Laws.{KeepsPrefixes, AddsUp, FramesEnd, SinkIsWhatLeaves, ReadsLieBehind, NothingAtFirst, ServesNext, CarriesOver};
+ghost use Rattle.flow_core_epochs.specs.Laws.{OutputStays, HeldAtFirst, BeginsEpoch, EndsEpoch, ServesFrames, WaitingGetsNone, AllLeaveOutNothing};
 
 use flow_core_laws::Bodies;
 

@@ -33,6 +33,10 @@ sum_text whole = codes ", " ++ decimal whole ++ codes " in all"
 abbrev pub share_text : ℕ → List ℕ
 share_text part = codes ", " ++ tenths part ++ codes " % of the steps of the run"
 
+-- steps of the machine
+abbrev pub step_count : ℕ → List ℕ
+step_count steps = decimal steps ++ (if steps == 1 then codes " step" else codes " steps")
+
 -- turns of a budget
 abbrev pub turns_text : ℕ → List ℕ
 turns_text turns = decimal turns ++ (if turns == 1 then codes " turn of its budget" else codes " turns of its budget")
@@ -53,7 +57,7 @@ run_steps runs main = sum (all_steps runs) + main.steps
 -- The line of `main`: its steps, their share of the steps of the run, and how many turns of its budget it took.
 abbrev pub main_line : Taken → (all : ℕ) → List ℕ
 main_line main all =
-    line (codes "main: " ++ decimal main.steps ++ codes " steps" ++ share_text (share main.steps all) ++ (codes ", " ++ turns_text main.turns))
+    line (codes "main: " ++ step_count main.steps ++ share_text (share main.steps all) ++ (codes ", " ++ turns_text main.turns))
 
 -- The line of a task: how many activations it has and how many of them ran; of these the least, the most and the mean of their steps,
 -- their sum, its share of the steps of the run, and the most turns of its budget that one of them took. `lines` has the line of each
@@ -67,10 +71,10 @@ task_line lines runs main task =
 
 -- The steps of all tasks, those of a longest chain, and how many times as fast more workers can make the tasks at most.
 abbrev pub all_line : ℕ → List ℕ
-all_line all = codes "all tasks: " ++ decimal all ++ line (codes " steps")
+all_line all = line (codes "all tasks: " ++ step_count all)
 
 abbrev pub longest_line : ℕ → List ℕ
-longest_line longest = codes "the longest chain of activations that wait for one another: " ++ decimal longest ++ line (codes " steps")
+longest_line longest = line (codes "the longest chain of activations that wait for one another: " ++ step_count longest)
 
 abbrev pub speed_line : (all longest : ℕ) → List ℕ
 speed_line all longest = codes "more workers can make the tasks " ++ hundredths (ratio all longest) ++ line (codes " times as fast at most")

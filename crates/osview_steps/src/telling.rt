@@ -1,6 +1,7 @@
 ghost use Rattle.std.specs.Prelude.{◌≡◌, ◌<◌, ◌≤◌, ◌*◌, ◌++◌, ◌==◌, All, IfOk, OnOk, codes, if◌then◌else◌, length};
 ghost use Rattle.osview_steps.specs.Counting.{IsSmall};
-ghost use Rattle.osview_steps.specs.Lines.{all_line, counts_text, longest_line, main_line, range_text, share_text, speed_line, steps_lines, turns_text};
+ghost use Rattle.osview_steps.specs.Lines.{all_line, counts_text, longest_line, main_line, range_text, share_text, speed_line, step_count, steps_lines, turns_text};
+ghost use Rattle.collector.specs.Line.{line};
 ghost use Rattle.osview_steps.specs.Told.{tally_line, tally_text};
 ghost use Rattle.osview_steps.specs.declared.runs.TaskRun.{TaskRun as Run};
 
@@ -50,6 +51,21 @@ fn add_share(told: &mut Text, share: u128) -> Result<(), Memory>
     told.add(b" % of the steps of the run")
 }
 
+/// What stands behind a number of steps.
+fn step_word(count: u128) -> &'static [u8]
+    ensures { result.now ≡ (if count == 1 then codes " step" else codes " steps") }
+{
+    if count == 1 { b" step" } else { b" steps" }
+}
+
+/// Adds a line: bytes, and a number of steps behind them.
+fn add_step_line(told: &mut Text, before: &[u8], steps: u128) -> Result<(), Memory>
+    ensures { OnOk result (told.new ≡ told.old ++ line (before.now ++ step_count steps)) }
+{
+    add_between(told, before, steps, step_word(steps))?;
+    told.add(b"\n")
+}
+
 /// What stands behind a number of turns of a budget.
 fn turn_word(count: u64) -> &'static [u8]
     ensures { result.now ≡ (if count == 1 then codes " turn of its budget" else codes " turns of its budget") }
@@ -74,7 +90,7 @@ fn add_main(told: &mut Text, main: Taken, all: u128) -> Result<(), Memory>
     ensures { OnOk result (told.new ≡ told.old ++ main_line main all) }
 {
     told.field(b"main: ", main.steps)?;
-    told.add(b" steps")?;
+    told.add(step_word(u128::from(main.steps)))?;
     add_share(told, share(u128::from(main.steps), all))?;
     add_turns(told, b", ", main.turns)?;
     told.add(b"\n")
@@ -120,12 +136,11 @@ fn add_chain(told: &mut Text, all: u128, longest: u128) -> Result<(), Memory>
     requires { all ≤ 65536 * 18446744073709551615 }
     ensures { OnOk result (told.new ≡ told.old ++ (all_line all ++ longest_line longest ++ speed_line all longest)) }
 {
-    add_between(told, b"all tasks: ", all, b" steps\n")?;
-    add_between(
+    add_step_line(told, b"all tasks: ", all)?;
+    add_step_line(
         told,
         b"the longest chain of activations that wait for one another: ",
         longest,
-        b" steps\n",
     )?;
     add_speed(told, all, longest)
 }

@@ -1,11 +1,13 @@
 -- The plan of an epoch, by the layout of all activations so far.
-use Rattle.std.specs.Prelude.{◌≡◌, ℕ, ℤ, ◌==◌, pos, if◌then◌else◌, List, ◌++◌, Option, Some, None, All, slice_get, slice_index, length, map, sum_by, ◌+◌, ◌-◌, ◌<◌, nat_lt}
+use Rattle.std.specs.Prelude.{◌≡◌, ℕ, ℤ, ◌==◌, pos, if◌then◌else◌, List, ◌++◌, Option, Some, None, All}
+use Rattle.std.specs.Prelude.{slice_get, slice_index, length, map, sum_by, ◌+◌, ◌-◌, ◌<◌, nat_lt}
 use Rattle.std.specs.Option.{option_map, option_map_or}
 use Rattle.std.specs.List.{flat_map, range_with_len}
 use Rattle.flow_core_laws.specs.declared.activation.Activation.{Activation}
 use Rattle.flow_core_laws.specs.Window.{Window, producer}
 use Rattle.flow_core_laws.specs.Place.{Place}
-use Rattle.flow_core_epochs.specs.Epoch.{number_in, read_from, open_in, put_over, Kept, value_kept, epoch_meaning, AreChosen, IsKeptFor, StandsForEpoch, IsOutside}
+use Rattle.flow_core_epochs.specs.Epoch.{number_in, read_from, open_in, put_over, Kept, value_kept}
+use Rattle.flow_core_epochs.specs.Epoch.{epoch_meaning, AreChosen, IsKeptFor, StandsForEpoch, IsOutside}
 use Rattle.flow_core_laws.specs.declared.plan.Plan.{Plan}
 use Rattle.flow_core_laws.specs.declared.outcome.Outcome.{Outcome}
 use Rattle.flow_core_laws.specs.IsSound.{IsSound}

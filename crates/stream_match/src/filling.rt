@@ -1,4 +1,5 @@
-ghost use Rattle.std.specs.Prelude.{◌≡◌, ℕ, [], ◌∷◌, ◌+◌, ◌-◌, ◌++◌, ◌^◌, ◌<◌, ◌≤◌, All, IfOk, None, OnOk, count_by, is_none, length, map, min, pos, replicate, slice_index, sum_by};
+ghost use Rattle.std.specs.Prelude.{◌≡◌, ℕ, [], ◌∷◌, ◌+◌, ◌-◌, ◌++◌, ◌^◌, ◌<◌, ◌≤◌, All, IfOk, None, OnOk};
+ghost use Rattle.std.specs.Prelude.{count_by, is_none, length, map, min, pos, replicate, slice_index, sum_by};
 ghost use Rattle.std.specs.List.{flat_map, range_with_len};
 ghost use Rattle.flow_core_laws.specs.declared.elem.Elem.TheVariants.{Value};
 ghost use Rattle.stream_match.specs.declared.stretch.Stretch.{Stretch};
@@ -70,7 +71,8 @@ fn fill_one(
 fn fill_open(cells: &mut List<Option<Elem>>, input: &[u8], stretch: Stretch) -> Result<u32, Memory>
     requires { stretch.first + stretch.count < 2 ^ 64 }
     ensures cells { OnOk result (cells.new ≡ cells.old ++ map (opening_element input.now stretch.stream) (range_with_len stretch.first stretch.count)) }
-    ensures empty { IfOk result (λ empty. empty ≡ count_by is_none (map (opening_element input.now stretch.stream) (range_with_len stretch.first stretch.count))) }
+    ensures empty { IfOk result (λ empty. empty ≡ count_by is_none (map (opening_element input.now stretch.stream)
+        (range_with_len stretch.first stretch.count))) }
 {
     if stretch.stream != 0 {
         fill_empty(cells, stretch.count)?;

@@ -51,7 +51,8 @@ pub(crate) fn leaving(
     requires cursors { length cursors.now ≡ length layout.now.writers }
     requires small { All (λ cursor. cursor < 2 ^ 62) cursors.now }
     requires next { next ≡ reads_before layout.now frames.now (length frames.now) }
-    ensures stretches { IfOk result (λ r. r.stretches ≡ with_positions (stretches_from (length frames.now) next (leaving_reaches layout.now frames.now cursors.now))) }
+    ensures stretches { IfOk result (λ r. r.stretches ≡ with_positions (stretches_from (length frames.now) next
+        (leaving_reaches layout.now frames.now cursors.now))) }
     ensures next { IfOk result (λ r. r.next ≡ next + total (leaving_reaches layout.now frames.now cursors.now)) }
 {
     let mut leaving = Reaching {

@@ -80,7 +80,8 @@ fn filled(
     requires into { All (λ (s : Stretch). s.to < frames + 1) reads.now }
     requires leave { All (λ (s : Stretch). s.to < frames + 1) leaves.now }
     requires few { length (flat_map (filled_cells input.now kept.now) reads.now ++ flat_map (filled_cells input.now kept.now) leaves.now) < 2 ^ 32 }
-    ensures cells { IfOk result (λ filled. filled.cells ≡ flat_map (filled_cells input.now kept.now) reads.now ++ flat_map (filled_cells input.now kept.now) leaves.now) }
+    ensures cells { IfOk result (λ filled. filled.cells ≡ flat_map (filled_cells input.now kept.now) reads.now
+        ++ flat_map (filled_cells input.now kept.now) leaves.now) }
     ensures frames { IfOk result (λ filled. length filled.waits.items ≡ frames + 1) }
     ensures waits { IfOk result (λ filled. (f : ℕ) → f < frames + 1
         → slice_index filled.waits.items f ≡ sum_by (empty_in input.now kept.now f) reads.now + sum_by (empty_in input.now kept.now f) leaves.now) }
