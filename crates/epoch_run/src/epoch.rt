@@ -138,7 +138,7 @@ fn run_these<R: Threads + Sync, G: Gate>(
     let run = run_frames(
         rt,
         alloc,
-        &epoch.plan,
+        epoch.plan,
         frames,
         bodies,
         workers,
@@ -179,11 +179,12 @@ fn plan_these(
     Ok(epoch)
 }
 
-/// Runs the plan of an epoch with these frames. Where several workers run it, it tells how long the bodies were.
+/// Runs the plan of an epoch with these frames, and gives up its cells before what it came to is taken. Where several workers run it,
+/// it tells how long the bodies were.
 fn run_frames<R: Threads + Sync, B: Bodies<Scratch = Scratch>, G: Gate>(
     rt: &R,
     alloc: Global,
-    plan: &Plan,
+    plan: Plan,
     frames: &[u32],
     bodies: &B,
     workers: u32,
@@ -191,17 +192,17 @@ fn run_frames<R: Threads + Sync, B: Bodies<Scratch = Scratch>, G: Gate>(
     pace: &mut Pace,
 ) -> Result<Ends, Memory>
     requires workers { (1 ≤ workers) × (workers ≤ 64) }
-    requires sound { IsSound plan.now }
-    requires served { Serves plan.now (λ f. B.outcome bodies.now (slice_index frames.now f))
+    requires sound { IsSound plan }
+    requires served { Serves plan (λ f. B.outcome bodies.now (slice_index frames.now f))
         (λ f inputs outputs. (f < length frames.now) × B.takes bodies.now (slice_index frames.now f) inputs outputs) }
-    ensures ends { IfOk result (λ e. e.ends ≡ ends_of (epoch_meaning plan.now frames.now (B.outcome bodies.now))) }
-    ensures output { IfOk result (λ e. e.output ≡ sink_elements plan.now (epoch_meaning plan.now frames.now (B.outcome bodies.now))) }
+    ensures ends { IfOk result (λ e. e.ends ≡ ends_of (epoch_meaning plan frames.now (B.outcome bodies.now))) }
+    ensures output { IfOk result (λ e. e.output ≡ sink_elements plan (epoch_meaning plan frames.now (B.outcome bodies.now))) }
 {
     if workers == 1 {
         return run_plan(
             rt,
             alloc,
-            plan,
+            &plan,
             &FrameBodies { bodies, frames },
             1,
             gate,
@@ -217,7 +218,7 @@ fn run_frames<R: Threads + Sync, B: Bodies<Scratch = Scratch>, G: Gate>(
         bodies: &bodies,
         frames,
     };
-    let run = run_plan(rt, alloc, plan, &bodies, workers, gate, *pace)?;
+    let run = run_plan(rt, alloc, &plan, &bodies, workers, gate, *pace)?;
     *pace = Pace::of(steps.load(Ordering::Relaxed), frames.len());
     Ok(run)
 }

@@ -92,11 +92,11 @@ impl Held {
             run.output.as_slice(),
         )?;
         self.without_end = still_open(alloc, readers, self.ends.ends.as_slice())?;
-        self.kept = carry_over(
+        carry_over(
             alloc,
             layout,
             self.without_end.as_slice(),
-            self.kept.as_slice(),
+            &mut self.kept,
             places,
             run.output.as_slice(),
         )?;

@@ -1,5 +1,5 @@
 -- What is carried over, one by one.
-use Rattle.std.proofs.Common.{◌≡◌, ℕ, zero, suc, ◌+◌, ◌<◌, ◌≤◌, List, [], ◌∷◌, ◌++◌, Option, Some, None, Bool, cond, ◌⊎◌, inl, inr, map, length, get_or, take, refl, sym, ap, ◌∙◌, arith}
+use Rattle.std.proofs.Common.{◌≡◌, ℕ, zero, suc, ◌+◌, ◌<◌, ◌≤◌, List, [], ◌∷◌, ◌++◌, Option, Some, None, Bool, true, false, cond, ◌⊎◌, inl, inr, map, length, get_or, take, refl, sym, ap, ◌∙◌, arith}
 use Rattle.std.specs.Prelude.{filter, All, nat_le, ◌&&◌}
 use Rattle.std.specs.List.{range_with_len}
 use Rattle.std.proofs.lemmas.List.FromFn.{get_or-map-range_with_len}
@@ -57,19 +57,21 @@ left_more cursors places values n d old mid new same lt before step =
     ∙ append_assoc old (filter (is_behind cursors) (elements_at ps vs)) (filter (is_behind cursors) (elements_at p v))
     ∙ ap (λ ks. old ++ ks) (sym (ap (filter (is_behind cursors)) split ∙ filter-append (is_behind cursors) (elements_at ps vs) (elements_at p v)))
 
--- one more kept element
-pub kept_more : (cursors : List ℕ) (kept : List Kept) (n : ℕ) (d : Kept) (mid new : List epoch.Kept) → n < length kept → mid ≡ filter (is_behind cursors) (map kept_of (take n kept)) → new ≡ mid ++ filter (is_behind cursors) (kept_of (get_or kept n d) ∷ []) → new ≡ filter (is_behind cursors) (map kept_of (take (n + 1) kept))
-kept_more cursors kept n d mid new lt before step =
-    step
-    ∙ ap (λ ks. ks ++ filter (is_behind cursors) (kept_of (get_or kept n d) ∷ [])) before
-    ∙ sym (ap (λ ks. filter (is_behind cursors) (map kept_of ks)) (take_more kept n d lt) ∙ ap (filter (is_behind cursors)) (map-append kept_of (take n kept) (get_or kept n d ∷ [])) ∙ filter-append (is_behind cursors) (map kept_of (take n kept)) (kept_of (get_or kept n d) ∷ []))
+-- the elements that are kept where a test of them is true
+one_kept : (p : epoch.Kept → Bool) (k : Kept) (kept : List Kept) (b : Bool) → p (kept_of k) ≡ b → map kept_of (filter (λ k. p (kept_of k)) kept) ≡ filter p (map kept_of kept)
+    → map kept_of (filter (λ k. p (kept_of k)) (k ∷ kept)) ≡ filter p (map kept_of (k ∷ kept))
+one_kept p k kept true is rest =
+    ap (λ b. map kept_of (cond b (k ∷ filter (λ k. p (kept_of k)) kept) (filter (λ k. p (kept_of k)) kept))) is
+    ∙ ap (λ ks. kept_of k ∷ ks) rest
+    ∙ sym (ap (λ b. cond b (kept_of k ∷ filter p (map kept_of kept)) (filter p (map kept_of kept))) is)
+one_kept p k kept false is rest =
+    ap (λ b. map kept_of (cond b (k ∷ filter (λ k. p (kept_of k)) kept) (filter (λ k. p (kept_of k)) kept))) is
+    ∙ rest
+    ∙ sym (ap (λ b. cond b (kept_of k ∷ filter p (map kept_of kept)) (filter p (map kept_of kept))) is)
 
--- both together
-pub carried_is : (cursors : List ℕ) (kept : List Kept) (n : ℕ) (places : List streams.Place) (values : List (Option Elem)) (mid new : List epoch.Kept) → length kept ≤ n → mid ≡ filter (is_behind cursors) (map kept_of (take n kept)) → new ≡ mid ++ filter (is_behind cursors) (elements_at places values) → new ≡ carried_by cursors (map kept_of kept) places values
-carried_is cursors kept n places values mid new all before step =
-    step
-    ∙ ap (λ ks. ks ++ filter (is_behind cursors) (elements_at places values)) (before ∙ ap (λ ks. filter (is_behind cursors) (map kept_of ks)) (take_all n kept all))
-    ∙ sym (filter-append (is_behind cursors) (map kept_of kept) (elements_at places values))
+pub filter_kept : (p : epoch.Kept → Bool) (kept : List Kept) → map kept_of (filter (λ k. p (kept_of k)) kept) ≡ filter p (map kept_of kept)
+filter_kept p [] = refl
+filter_kept p (k ∷ kept) = one_kept p k kept (p (kept_of k)) refl (filter_kept p kept)
 
 -- tests that agree on a list
 filter_same : {A : Type 0} (p q : A → Bool) (xs : List A) → ((x : A) → Has xs x → p x ≡ q x) → filter p xs ≡ filter q xs

@@ -1,4 +1,4 @@
-ghost use Rattle.std.specs.Prelude.{◌≡◌, ◌<◌, [], ◌∷◌, ◌++◌, All, List, IfOk, OnOk, length, map, filter, nat_le, slice_index, ◌&&◌};
+ghost use Rattle.std.specs.Prelude.{◌≡◌, ◌<◌, [], ◌∷◌, ◌++◌, All, List, OnOk, length, map, filter, nat_le, slice_index, ◌&&◌};
 ghost use Rattle.flow_core_laws.specs.declared.activation.Activation.{Activation};
 ghost use Rattle.stream_match_layouts.specs.Layout.{IsLayout, IsLayoutOf};
 ghost use Rattle.stream_match_layouts.specs.Spans.{frame_count};
@@ -11,49 +11,60 @@ use os_io::Memory;
 use std::alloc::Global;
 use stream_match::{Kept, Layout, Place, read_cursors};
 
-/// What is carried over from an epoch that leaves some frames open, by a layout of all activations so far.
+/// Leaves of the elements that were kept for an epoch what is carried over from it, where it leaves some frames open, by a layout
+/// of all activations so far, and adds what is carried over of those that left it. After `Memory` any of them may be missing.
 pub fn carry_over(
     alloc: Global,
     layout: &Layout,
     open_frames: &[u32],
-    kept: &[Kept],
+    kept: &mut Vec<Kept>,
     places: &[Place],
     values: &[Option<Elem>],
-) -> Result<Vec<Kept>, Memory>
+) -> Result<(), Memory>
     requires layout { IsLayout layout.now }
     requires exist { All (λ f. f < frame_count layout.now) open_frames.now }
-    requires kept_exist { All (λ k. k.stream < length layout.now.writers) kept.now }
+    requires kept_exist { All (λ k. k.stream < length layout.now.writers) kept.old.items }
     requires places_exist { All (λ p. p.stream < length layout.now.writers) places.now }
     requires as_many { length values.now ≡ length places.now }
-    ensures { IfOk result (λ carried. (activations : List Activation) → IsLayoutOf layout.now activations
-        → map kept_of carried.items ≡ carried_over activations open_frames.now (map kept_of kept.now) (map place_of places.now) values.now) }
+    ensures { OnOk result ((activations : List Activation) → IsLayoutOf layout.now activations
+        → map kept_of kept.new.items ≡ carried_over activations open_frames.now (map kept_of kept.old.items) (map place_of places.now) values.now) }
 {
     let cursors = read_cursors(alloc, layout, open_frames)?;
-    let carried = carry(alloc, cursors.as_slice(), kept, places, values)?;
-    Ok(carried)
+    carry(cursors.as_slice(), kept, places, values)?;
+    Ok(())
 }
 
-/// What is carried over by the cursors of the streams: of the elements that were kept for it and of those that left it,
+/// Leaves what is carried over by the cursors of the streams: of the elements that were kept and of those that left an epoch,
 /// the ones on declared streams at the cursors or behind.
-pub fn carry(
-    alloc: Global,
+fn carry(
     cursors: &[u64],
-    kept: &[Kept],
+    kept: &mut Vec<Kept>,
     places: &[Place],
     values: &[Option<Elem>],
-) -> Result<Vec<Kept>, Memory>
-    requires kept_exist { All (λ k. k.stream < length cursors.now) kept.now }
-    requires places_exist { All (λ p. p.stream < length cursors.now) places.now }
+) -> Result<(), Memory>
     requires as_many { length values.now ≡ length places.now }
-    ensures { IfOk result (λ carried. map kept_of carried.items
-        ≡ carried_by cursors.now (map kept_of kept.now) (map place_of places.now) values.now) }
+    ensures { OnOk result (map kept_of kept.new.items
+        ≡ carried_by cursors.now (map kept_of kept.old.items) (map place_of places.now) values.now) }
 {
-    let mut carried = Vec::new(alloc);
-    for k in kept {
-        carry_one(&mut carried, cursors, *k)?;
+    leave_behind(kept, cursors);
+    carry_left(kept, cursors, places, values)
+}
+
+/// Leaves those of the kept elements that may still be read.
+fn leave_behind(kept: &mut Vec<Kept>, cursors: &[u64])
+    ensures { map kept_of kept.new.items ≡ filter (is_behind cursors.now) (map kept_of kept.old.items) }
+{
+    kept.retain(|k| may_be_read(cursors, k.stream, k.position));
+}
+
+/// Whether a position of a stream may still be read: it is of a declared stream, and at the cursor or behind.
+fn may_be_read(cursors: &[u64], stream: u32, position: u64) -> bool
+    ensures { result ≡ (nat_le 2 stream && nat_le (slice_index cursors.now stream) position) }
+{
+    match cursors.get(stream as usize) {
+        Some(cursor) => stream >= 2 && position >= *cursor,
+        None => stream >= 2,
     }
-    carry_left(&mut carried, cursors, places, values)?;
-    Ok(carried)
 }
 
 /// Carries over the elements that left.
@@ -63,7 +74,6 @@ fn carry_left(
     places: &[Place],
     values: &[Option<Elem>],
 ) -> Result<(), Memory>
-    requires places_exist { All (λ p. p.stream < length cursors.now) places.now }
     requires as_many { length values.now ≡ length places.now }
     ensures { OnOk result (map kept_of carried.new.items ≡ map kept_of carried.old.items
         ++ filter (is_behind cursors.now) (elements_at (map place_of places.now) values.now)) }
@@ -81,7 +91,6 @@ fn carry_at(
     place: Place,
     value: Option<Elem>,
 ) -> Result<(), Memory>
-    requires { place.stream < length cursors.now }
     ensures { OnOk result (map kept_of carried.new.items ≡ map kept_of carried.old.items
         ++ filter (is_behind cursors.now) (elements_at (place_of place ∷ []) (value ∷ []))) }
 {
@@ -98,11 +107,10 @@ fn carry_at(
 
 /// Carries an element over, if it is of a declared stream and at the cursor or behind.
 fn carry_one(carried: &mut Vec<Kept>, cursors: &[u64], kept: Kept) -> Result<(), Memory>
-    requires { kept.stream < length cursors.now }
     ensures { OnOk result (map kept_of carried.new.items ≡ map kept_of carried.old.items
         ++ filter (is_behind cursors.now) (kept_of kept ∷ [])) }
 {
-    if kept.stream >= 2 && kept.position >= cursors[kept.stream as usize] {
+    if may_be_read(cursors, kept.stream, kept.position) {
         carried.push(kept)?;
     }
     Ok(())

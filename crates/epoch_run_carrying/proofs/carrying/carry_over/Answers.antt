@@ -6,6 +6,6 @@ use Rattle.epoch_run_carrying.proofs.carrying.carry_over.Goals as goal
 
 pub returns : goal.returns
 returns c = λ activations of.
-    c.in_ok-carried.ensures
-    ∙ ap (λ cursors. carried_by cursors (map kept_of c.args.kept.now) (map place_of c.args.places.now) c.args.values.now) c.as_slice.ensures.value
-    ∙ carried_by_cursors activations c.args.open_frames.now c.in_ok-cursors.cursors.items (length c.args.layout.now.writers) c.args.kept.now c.args.places.now c.args.values.now (c.in_ok-cursors.ensures activations of) c.requires.kept_exist c.requires.places_exist
+    c.in_ok-carry.ensures
+    ∙ ap (λ cursors. carried_by cursors (map kept_of c.args.kept.now.items) (map place_of c.args.places.now) c.args.values.now) c.as_slice.ensures.value
+    ∙ carried_by_cursors activations c.args.open_frames.now c.in_ok-cursors.cursors.items (length c.args.layout.now.writers) c.args.kept.now.items c.args.places.now c.args.values.now (c.in_ok-cursors.ensures activations of) c.requires.kept_exist c.requires.places_exist

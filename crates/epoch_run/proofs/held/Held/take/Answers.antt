@@ -5,9 +5,8 @@ use Rattle.flow_core_laws.specs.Outcome.{outcome_at}
 use Rattle.flow_core_laws.specs.declared.elem.Elem.{Elem}
 use Rattle.flow_core_laws.specs.declared.task_end.TaskEnd.{TaskEnd}
 use Rattle.stream_match.specs.Kept.{kept_of, place_of}
-use Rattle.stream_match.specs.declared.kept.Kept.{Kept}
 use Rattle.stream_match_layouts.specs.Spans.{frame_count}
-use Rattle.epoch_run.proofs.Frames.{all_exist, are_frames}
+use Rattle.epoch_run.proofs.Frames.{all_exist, are_frames, frames_differ}
 use Rattle.epoch_run.proofs.Listing.{still_listed}
 use Rattle.epoch_run.proofs.held.Held.take.Goals as goal
 
@@ -52,7 +51,9 @@ returns-clause-kept c = λ activations of.
     let is : c.in_ok-self.field-0 ≡ open_in after count =
     c.in_ok-self.ensures ∙ ap (λ (es : List (Option TaskEnd)). filter (λ a. is_none (outcome_at es a)) readers) c.as_slice-4.ensures
     ∙ still_listed old frames c.args.run.now.ends after readers count c.requires.are_open c.requires.readers put in
-    c.in_ok-self-2.ensures activations of
-    ∙ ap (λ (fs : List ℕ). carried_over activations fs (map kept_of c.as_slice-6.result.now) (map place_of c.args.places.now) c.as_slice-7.result.now) (c.as_slice-5.ensures ∙ is)
-    ∙ ap (λ (ks : List Kept). carried_over activations (open_in after count) (map kept_of ks) (map place_of c.args.places.now) c.as_slice-7.result.now) c.as_slice-6.ensures.value
-    ∙ ap (λ (vs : List (Option Elem)). carried_over activations (open_in after count) (map kept_of c.args.self.now.kept.items) (map place_of c.args.places.now) vs) c.as_slice-7.ensures
+    c.in_ok-carry_over.ensures activations of
+    ∙ ap (λ (fs : List ℕ). carried_over activations fs (map kept_of c.args.self.now.kept.items) (map place_of c.args.places.now) c.as_slice-6.result.now) (c.as_slice-5.ensures ∙ is)
+    ∙ ap (λ (vs : List (Option Elem)). carried_over activations (open_in after count) (map kept_of c.args.self.now.kept.items) (map place_of c.args.places.now) vs) c.as_slice-6.ensures
+
+pub take_ends-requires-clause-differ : goal.take_ends-requires-clause-differ
+take_ends-requires-clause-differ c = frames_differ c.args.layout.now c.args.frames.now c.requires.frames
