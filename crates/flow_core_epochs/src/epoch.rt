@@ -1,9 +1,8 @@
-ghost use Rattle.std.specs.Prelude.{◌≡◌, ◌<◌, ℕ, Some, IfOk, is_none, length, slice_get};
-ghost use Rattle.flow_core_laws.specs.Outcome.{outcome_at};
-ghost use Rattle.flow_core_epochs.specs.Epoch.{open_in, put_over};
+ghost use Rattle.std.specs.Prelude.{◌≡◌, ◌<◌, ℕ, Some, length, slice_get};
+ghost use Rattle.flow_core_epochs.specs.Epoch.{put_over};
 
 use flow_core_laws::{Bodies, TaskEnd};
-use os_io::{List, Memory};
+use os_io::Memory;
 use std::alloc::Global;
 
 /// The bodies of an epoch's frames: that of a frame is the body of its activation.
@@ -39,29 +38,6 @@ impl<'r, B: Bodies> Bodies for FrameBodies<'r, B> {
         self.bodies
             .run(self.frames[frame as usize], inputs, outputs, scratch)
     }
-}
-
-/// Whether an activation has no end yet.
-fn is_open(ends: &[Option<TaskEnd>], activation: u32) -> bool
-    ensures { result ≡ is_none (outcome_at ends.now activation) }
-{
-    match ends.get(activation as usize) {
-        Some(end) => end.is_none(),
-        None => true,
-    }
-}
-
-/// The activations below a number that have no end yet, ascending.
-pub fn open_frames(alloc: Global, ends: &[Option<TaskEnd>], count: u32) -> Result<List<u32>, Memory>
-    ensures { IfOk result (λ frames. frames ≡ open_in ends.now count) }
-{
-    let mut frames = List::new(alloc);
-    for activation in 0..count {
-        if is_open(ends, activation) {
-            frames.push(activation)?;
-        }
-    }
-    Ok(frames)
 }
 
 /// Puts the ends of frames over those of all activations.
