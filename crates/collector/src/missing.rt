@@ -125,7 +125,7 @@ fn producing(layout: &Layout, gap: Gap) -> Option<u32>
         → result ≡ option_map (λ w. w.activation) (producer activations gap.stream gap.position) }
 {
     let span = producer(layout, gap.stream, gap.position)?;
-    Some(span.frame)
+    Some(u32::from(span.frame))
 }
 
 /// The write span that covers a position.
@@ -147,10 +147,10 @@ fn span(layout: &Layout, number: u32) -> Option<Span>
 }
 
 /// Whether an activation has an end.
-fn has_end(ends: &Ends, frame: u32) -> bool
+fn has_end(ends: &Ends, frame: u16) -> bool
     ensures { result ≡ has_end_at ends.now.ends frame }
 {
-    end_of(ends, frame).is_some()
+    end_of(ends, u32::from(frame)).is_some()
 }
 
 /// The end of an activation, if it has one.

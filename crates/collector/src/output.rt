@@ -11,7 +11,7 @@ pub fn output_bytes(alloc: Global, ends: &Ends) -> Result<Vec<u8>, Memory>
     requires bytes { All IsByteIfThere ends.now.output }
     ensures written { IfOk result (λ bytes. bytes.items ≡ written ends.now.output) }
 {
-    let mut bytes = Vec::new(alloc);
+    let mut bytes = Vec::with_capacity(alloc, ends.output.len())?;
     for element in ends.output.as_slice() {
         let Some(Elem::Value(value)) = element else {
             return Ok(bytes);

@@ -101,7 +101,7 @@ impl Readers {
         if span.write {
             Ok(())
         } else {
-            self.add(span.stream, line_of(lines, span.frame))
+            self.add(span.stream, line_of(lines, u32::from(span.frame)))
         }
     }
 

@@ -91,7 +91,7 @@ fn covered_element(outcomes: &Outcomes, span: Span, position: u64) -> Option<Ele
     ensures { result ≡ given_by outcomes.now span.frame (span.offset + (position - span.first)) }
 {
     let place = u64::from(span.offset) + position.saturating_sub(span.first);
-    written_at(outcomes, span.frame, place as usize)
+    written_at(outcomes, u32::from(span.frame), place as usize)
 }
 
 /// The element at a position of a stream other than the input, by the write span that covers it.

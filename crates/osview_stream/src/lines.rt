@@ -62,7 +62,7 @@ fn add_writer(told: &mut Text, lines: &[u32], span: Option<Span>) -> Result<(), 
     ensures { OnOk result (told.new ≡ told.old ++ option_map_or (λ s. activation_text lines.now s.frame) span []) }
 {
     match span {
-        Some(span) => add_activation(told, lines, span.frame),
+        Some(span) => add_activation(told, lines, u32::from(span.frame)),
         None => Ok(()),
     }
 }

@@ -97,7 +97,7 @@ impl Layout {
         ensures streams { OnOk result (length self.new.writers ≡ length self.old.writers) }
         ensures input { OnOk result (self.new.input_len ≡ self.old.input_len) }
     {
-        let frame = self.starts.len() as u32 - 1;
+        let frame = (self.starts.len() - 1) as u16;
         let mut inputs = 0;
         let mut outputs = 0;
         for claim in activation.claims.as_slice() {
@@ -114,7 +114,7 @@ impl Layout {
     }
 
     /// Adds a claim of an activation, where its windows before this one take so many inputs or outputs.
-    fn take(&mut self, frame: u32, claim: &Claim, offset: u32) -> Result<(), Memory>
+    fn take(&mut self, frame: u16, claim: &Claim, offset: u32) -> Result<(), Memory>
         requires { HasRoom self.old claim.now }
         ensures { OnOk result (self.new ≡ with_claim self.old frame claim.now offset) }
     {
@@ -131,12 +131,12 @@ impl Layout {
             first
         };
         self.spans.push(Span {
-            frame,
-            stream: claim.stream,
-            write: claim.write,
             first,
             count: claim.horizon,
             offset,
+            stream: claim.stream,
+            frame,
+            write: claim.write,
         })?;
         Ok(())
     }

@@ -76,7 +76,7 @@ fn producing(layout: &Layout, stream: u32, position: u64) -> Option<u32>
 {
     let number = layout.producer(stream, position)?;
     let span = span(layout, number)?;
-    Some(span.frame)
+    Some(u32::from(span.frame))
 }
 
 /// A span by its number.
