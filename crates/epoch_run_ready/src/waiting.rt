@@ -138,7 +138,7 @@ fn is_writer_stuck(layout: &Layout, waits: &[bool], span: Span, place: usize) ->
     let number = layout.writer(span.stream, place)?;
     let writer = layout.span(number as usize);
     if meet(span, writer) {
-        Some(is_marked(waits, writer.frame))
+        Some(is_marked(waits, u32::from(writer.frame)))
     } else {
         None
     }
