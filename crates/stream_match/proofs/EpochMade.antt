@@ -10,12 +10,12 @@ use Rattle.stream_match_layouts.specs.declared.layout.Layout.{Layout}
 use Rattle.stream_match.specs.declared.stretch.Stretch.{Stretch}
 use Rattle.stream_match.specs.declared.reaching.Reaching.{Reaching}
 use Rattle.stream_match_layouts.specs.Layout.{IsLayout}
-use Rattle.stream_match.specs.Stretch.{by_frame}
+use Rattle.stream_match.specs.Stretch.{by_frame, stretch_places}
 use Rattle.stream_match.specs.Walking.{IsStretch}
 use Rattle.stream_match.specs.Weave.{Reach, Weave, total, cells_of_first, frame_cells, woven_pieces, IsWoven}
 use Rattle.stream_match.specs.EpochPlan.{AreFrames, epoch_opening, reaches_over, weave_over}
 use Rattle.stream_match.specs.Kept.{kept_of}
-use Rattle.stream_match.specs.EpochCode.{pieces_for, renumbered, empty_in, filled_cells, stretch_places, stretches_from, with_positions, reads_before, read_part, epoch_frame, IsRead, IsLeft, CanLeave}
+use Rattle.stream_match.specs.EpochCode.{pieces_for, renumbered, empty_in, filled_cells, stretches_from, with_positions, reads_before, read_part, epoch_frame, IsRead, IsLeft, CanLeave}
 use Rattle.std.proofs.lemmas.List.Elements.{All-filter}
 use Rattle.flow_core_laws.specs.Place.{places_from}
 use Rattle.flow_core_laws.proofs.Stretches.{flat_map-none}

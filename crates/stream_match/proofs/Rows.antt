@@ -16,11 +16,11 @@ use Rattle.stream_match_layouts.specs.declared.layout.Layout.{Layout}
 use Rattle.stream_match.specs.declared.stretch.Stretch.{Stretch}
 use Rattle.stream_match_layouts.specs.Writers.{writers_on, writer_at}
 use Rattle.stream_match_layouts.specs.Spans.{read_count, write_count, spans_of}
-use Rattle.stream_match.specs.Stretch.{overlap_first, overlap_end, piece_between, overlap, by_frame, pieces_from}
+use Rattle.stream_match.specs.Stretch.{overlap_first, overlap_end, piece_between, overlap, by_frame, pieces_from, stretch_places}
 use Rattle.stream_match.specs.Weave.{Reach, no_reach, Weave, total, reach_places, reach_cells, frame_cells, cells_of_first, stretch_in, with_frame, overlap_among, pieces_among, frame_pieces, woven_pieces, woven_frame}
 use Rattle.stream_match.specs.EpochPlan.{read_reach, reaches_over, weave_over}
 use Rattle.stream_match.specs.Kept.{kept_of}
-use Rattle.stream_match.specs.EpochCode.{renumbered, pieces_for, filled_cells, stretch_places, stretches_from, reads_before, read_part, epoch_frame}
+use Rattle.stream_match.specs.EpochCode.{renumbered, pieces_for, filled_cells, stretches_from, reads_before, read_part, epoch_frame}
 use Rattle.stream_match.proofs.Weaving.{first-more}
 use Rattle.stream_match.proofs.Behind.{read_total}
 

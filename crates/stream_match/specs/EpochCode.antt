@@ -6,8 +6,6 @@ use Rattle.std.specs.List.{flat_map, range_with_len}
 use Rattle.flow_core_laws.specs.declared.elem.Elem.{Elem}
 use Rattle.flow_core_laws.specs.declared.plan.FramePlan.{FramePlan}
 use Rattle.flow_core_laws.specs.declared.plan.Piece.{Piece}
-use Rattle.flow_core_laws.specs.Place as streams
-use Rattle.flow_core_laws.specs.Place.{places_from}
 use Rattle.flow_core_epochs.specs.Epoch.{number_in, value_kept}
 use Rattle.stream_match.specs.declared.kept.Kept.{Kept}
 use Rattle.stream_match.specs.Kept.{kept_of}
@@ -64,10 +62,6 @@ filled_cells input kept stretch = map (epoch_opening input (map kept_of kept) st
 -- how many cells of a stretch are empty, where it goes into the frame of a number
 abbrev pub empty_in : List ℕ → List Kept → ℕ → Stretch → ℕ
 empty_in input kept f stretch = if stretch.to == f then count_by is_none (filled_cells input kept stretch) else 0
-
--- the places of a stretch
-abbrev pub stretch_places : Stretch → List streams.Place
-stretch_places stretch = places_from stretch.stream stretch.first stretch.count
 
 -- the stretches of reaches into a frame, from a first cell on
 abbrev pub stretches_from : ℕ → ℕ → List Reach → List Stretch

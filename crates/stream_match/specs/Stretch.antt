@@ -2,10 +2,15 @@
 use Rattle.std.specs.Prelude.{ℕ, ◌+◌, ◌-◌, ◌==◌, Bool, nat_lt, min, max, if◌then◌else◌, List, [], ◌∷◌, length, filter}
 use Rattle.std.specs.List.{flat_map, range_with_len}
 use Rattle.flow_core_laws.specs.declared.plan.Piece.{Piece}
+use Rattle.flow_core_laws.specs.Place.{Place, places_from}
 use Rattle.stream_match_layouts.specs.declared.span.Span.{Span}
 use Rattle.stream_match_layouts.specs.declared.layout.Layout.{Layout}
 use Rattle.stream_match.specs.declared.stretch.Stretch.{Stretch}
 use Rattle.stream_match_layouts.specs.Writers.{writers_on, writer_at, end_of}
+
+-- the places of a stretch
+abbrev pub stretch_places : Stretch → List Place
+stretch_places stretch = places_from stretch.stream stretch.first stretch.count
 
 -- where a stretch and a write span begin to overlap, and where they cease to
 abbrev pub overlap_first : Stretch → Span → ℕ

@@ -5,18 +5,16 @@ ghost use Rattle.flow_core_laws.specs.IsSound.{IsSound};
 ghost use Rattle.flow_core_epochs.specs.Epoch.{IsOutside, StandsForEpoch};
 ghost use Rattle.stream_match.specs.declared.stretch.Stretch.{Stretch};
 ghost use Rattle.stream_match_layouts.specs.Layout.{IsLayout, IsLayoutOf};
-ghost use Rattle.stream_match.specs.Walking.{IsStretch};
 ghost use Rattle.stream_match_layouts.specs.Spans.{frame_count};
 ghost use Rattle.stream_match.specs.EpochPlan.{AreFrames, GoesOn, GoesOnFor, IsEpochPlanOf};
-ghost use Rattle.stream_match.specs.Kept.{kept_of, place_of, IsKeptOutside};
-ghost use Rattle.stream_match.specs.EpochCode.{Ascend, AreSorted, pieces_for, filled_cells, stretch_places};
+ghost use Rattle.stream_match.specs.Kept.{kept_of, IsKeptOutside};
+ghost use Rattle.stream_match.specs.EpochCode.{AreSorted};
+ghost use Rattle.stream_match.specs.Stretch.{stretch_places};
 
 use crate::cursors::read_cursors;
-use crate::filling::add_places;
 use crate::kept::Kept;
 use crate::look_up::sorted;
-use crate::place::Place;
-use crate::reaching::{leaving, reading};
+use crate::reaching::{Reaching, leaving, reading};
 use crate::stretch::Stretch;
 use crate::woven::weave_rows;
 use flow_core_laws::Plan;
@@ -24,12 +22,13 @@ use os_io::{List, Memory};
 use std::alloc::Global;
 use stream_match_layouts::Layout;
 
-/// The plan of an epoch, its frames, and the places of its sink cells.
+/// The plan of an epoch, its frames, and what leaves it: the cells of the sink are those of the first stretch, then those of the
+/// second, and so on.
 #[derive(Drop)]
 pub struct EpochPlan {
     pub plan: Plan,
     pub frames: List<u32>,
-    pub places: List<Place>,
+    pub leaves: List<Stretch>,
 }
 
 /// The plan of an epoch over an input. Its frames are these activations, in order. The cells are those
@@ -50,7 +49,8 @@ pub fn build_epoch(
     ensures sound { IfOk result (λ epoch. IsSound epoch.plan) }
     ensures stands_for { IfOk result (λ epoch. (activations : List Activation) → IsLayoutOf layout.now activations
         → IsOutside activations frames.now (map kept_of kept.now)
-        → StandsForEpoch epoch.plan activations input.now frames.now frames.now (map kept_of kept.now) (map place_of epoch.places)) }
+        → StandsForEpoch epoch.plan activations input.now frames.now frames.now (map kept_of kept.now) (flat_map stretch_places epoch.leaves)) }
+    ensures small { IfOk result (λ epoch. All (λ (s : Stretch). s.first + s.count < 2 ^ 64) epoch.leaves) }
     ensures adds_up { IfOk result (λ epoch. GoesOn layout.now input.now frames.now (map kept_of kept.now) epoch.plan) }
 {
     let epoch = build_ready(alloc, layout, frames, frames, kept, input)?;
@@ -76,7 +76,8 @@ pub fn build_ready(
     ensures sound { IfOk result (λ epoch. IsSound epoch.plan) }
     ensures stands_for { IfOk result (λ epoch. (activations : List Activation) → IsLayoutOf layout.now activations
         → IsOutside activations frames.now (map kept_of kept.now)
-        → StandsForEpoch epoch.plan activations input.now readers.now frames.now (map kept_of kept.now) (map place_of epoch.places)) }
+        → StandsForEpoch epoch.plan activations input.now readers.now frames.now (map kept_of kept.now) (flat_map stretch_places epoch.leaves)) }
+    ensures small { IfOk result (λ epoch. All (λ (s : Stretch). s.first + s.count < 2 ^ 64) epoch.leaves) }
     ensures adds_up { IfOk result (λ epoch. GoesOnFor layout.now input.now readers.now frames.now (map kept_of kept.now) epoch.plan) }
 {
     let cursors = read_cursors(alloc, layout, readers)?;
@@ -107,27 +108,18 @@ fn weave(
     requires small { All (λ cursor. cursor < 2 ^ 62) cursors.now }
     requires kept { AreSorted kept.now }
     ensures frames { IfOk result (λ epoch. epoch.frames ≡ frames.now) }
+    ensures small { IfOk result (λ epoch. All (λ (s : Stretch). s.first + s.count < 2 ^ 64) epoch.leaves) }
     ensures plan { IfOk result (λ epoch. IsEpochPlanOf layout.now input.now frames.now (map kept_of kept.now) cursors.now epoch.plan
-        (map place_of epoch.places)) }
+        (flat_map stretch_places epoch.leaves)) }
 {
     let read = reading(alloc, layout, frames)?;
     let left = leaving(alloc, layout, frames, cursors, read.next)?;
-    let places = places(alloc, left.stretches.as_slice(), left.next - read.next)?;
     let plan = weave_rows(alloc, layout, frames, &read, &left, kept, input)?;
     let frames = List::from_slice(alloc, frames)?;
+    let Reaching { stretches, .. } = left;
     Ok(EpochPlan {
         plan,
         frames,
-        places,
+        leaves: stretches,
     })
-}
-
-/// The places of what leaves, so many.
-fn places(alloc: Global, leaves: &[Stretch], count: u32) -> Result<List<Place>, Memory>
-    requires { All (λ (s : Stretch). s.first + s.count < 2 ^ 64) leaves.now }
-    ensures { IfOk result (λ places. map place_of places ≡ flat_map stretch_places leaves.now) }
-{
-    let mut places = List::with_capacity(alloc, count as usize)?;
-    add_places(&mut places, leaves)?;
-    Ok(places)
 }

@@ -3,13 +3,11 @@ ghost use Rattle.std.specs.Prelude.{count_by, is_none, length, map, min, pos, re
 ghost use Rattle.std.specs.List.{flat_map, range_with_len};
 ghost use Rattle.flow_core_laws.specs.declared.elem.Elem.TheVariants.{Value};
 ghost use Rattle.stream_match.specs.declared.stretch.Stretch.{Stretch};
-ghost use Rattle.stream_match.specs.Kept.{place_of};
 ghost use Rattle.stream_match.specs.EpochPlan.{opening_element};
-ghost use Rattle.stream_match.specs.EpochCode.{AreSorted, IsFirstFrom, empty_in, filled_cells, stretch_places};
+ghost use Rattle.stream_match.specs.EpochCode.{AreSorted, IsFirstFrom, empty_in, filled_cells};
 
 use crate::kept::Kept;
 use crate::look_up::{epoch_opening, first_from, first_from_on, is_kept_in};
-use crate::place::Place;
 use crate::stretch::Stretch;
 use flow_core_laws::Elem;
 use os_io::{List, Memory};
@@ -158,29 +156,4 @@ fn missing(element: Option<Elem>) -> u32
     ensures { result ≡ count_by is_none (element ∷ []) }
 {
     if element.is_none() { 1 } else { 0 }
-}
-
-/// Adds the places of stretches.
-pub(crate) fn add_places(places: &mut List<Place>, stretches: &[Stretch]) -> Result<(), Memory>
-    requires small { All (λ (s : Stretch). s.first + s.count < 2 ^ 64) stretches.now }
-    ensures { OnOk result (map place_of places.new ≡ map place_of places.old ++ flat_map stretch_places stretches.now) }
-{
-    for stretch in stretches {
-        add_places_of(places, *stretch)?;
-    }
-    Ok(())
-}
-
-/// Adds the places of a stretch.
-fn add_places_of(places: &mut List<Place>, stretch: Stretch) -> Result<(), Memory>
-    requires small { stretch.first + stretch.count < 2 ^ 64 }
-    ensures { OnOk result (map place_of places.new ≡ map place_of places.old ++ stretch_places stretch) }
-{
-    for offset in 0..stretch.count {
-        places.push(Place {
-            stream: stretch.stream,
-            position: stretch.first + u64::from(offset),
-        })?;
-    }
-    Ok(())
 }

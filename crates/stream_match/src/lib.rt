@@ -35,3 +35,4 @@ pub use kept::Kept;
 pub use place::Place;
 pub use plan::build;
 pub use stream_match_layouts::{Layout, Span, laws};
+pub use stretch::Stretch;

@@ -1,11 +1,14 @@
-/// Positions of a stream that go into the cells of a frame: what a span reads, or the output, which
+/// Positions of a stream that go into the cells of a frame: what a span reads, or what leaves, which
 /// goes to the sink.
 #[derive(Clone, Copy)]
-pub(crate) struct Stretch {
-    pub(crate) to: u32,
-    pub(crate) stream: u32,
-    pub(crate) first: u64,
-    pub(crate) count: u32,
+pub struct Stretch {
+    /// The number of the frame; the sink has the number behind the last one.
+    pub to: u32,
+    pub stream: u32,
+    /// The first position.
+    pub first: u64,
+    /// How many positions there are, and so many cells.
+    pub count: u32,
     /// The first of the cells.
-    pub(crate) at: u32,
+    pub at: u32,
 }

@@ -1,9 +1,11 @@
 use Rattle.std.proofs.Common.{◌∙◌, ◌++◌, map, sym, subst, ap}
+use Rattle.std.specs.List.{flat_map}
 use Rattle.flow_core_epochs.specs.Epoch.{value_kept}
 use Rattle.flow_core_epochs.proofs.Epochs.{adds_up}
 use Rattle.flow_core_epochs.proofs.Opening.{has_epoch}
 use Rattle.stream_match.specs.EpochPlan.{WrittenOutside, epoch_weave}
-use Rattle.stream_match.specs.Kept.{kept_of, place_of}
+use Rattle.stream_match.specs.Kept.{kept_of}
+use Rattle.stream_match.specs.Stretch.{stretch_places}
 use Rattle.stream_match.proofs.EpochWeave.{can_weave}
 use Rattle.stream_match.proofs.WovenSound.{woven_sound}
 use Rattle.stream_match.proofs.EpochStands.{epoch_stands}
@@ -35,9 +37,9 @@ returns-clause-stands_for c = λ activations is_of is_outside.
     let cursors = c.as_slice.result.now in
     let outside = subst (λ ks. WrittenOutside activations frames (map kept_of ks)) (sym c.as_slice-2.ensures.value) (outside_same activations frames c.args.kept.now c.in_ok-kept.kept.items c.in_ok-kept.ensures.permutation is_outside.written_outside) in
     let cursors_are = c.as_slice.ensures.value ∙ c.in_ok-cursors.ensures activations is_of in
-    stands_same c.in_ok-epoch.epoch.plan activations input c.args.readers.now frames (map kept_of sorted) (map kept_of c.args.kept.now) (map place_of c.in_ok-epoch.epoch.places)
+    stands_same c.in_ok-epoch.epoch.plan activations input c.args.readers.now frames (map kept_of sorted) (map kept_of c.args.kept.now) (flat_map stretch_places c.in_ok-epoch.epoch.leaves)
     (λ p. ap (λ ks. value_kept (map kept_of ks) p) c.as_slice-2.ensures.value ∙ c.in_ok-kept.ensures.same is_outside.places_differ p)
-    (epoch_stands layout c.requires.layout activations is_of input c.args.readers.now frames (map kept_of sorted) cursors c.requires.frames outside cursors_are c.in_ok-epoch.epoch.plan (map place_of c.in_ok-epoch.epoch.places) c.in_ok-epoch.ensures.plan)
+    (epoch_stands layout c.requires.layout activations is_of input c.args.readers.now frames (map kept_of sorted) cursors c.requires.frames outside cursors_are c.in_ok-epoch.epoch.plan (flat_map stretch_places c.in_ok-epoch.epoch.leaves) c.in_ok-epoch.ensures.plan)
 
 pub returns-clause-adds_up : goal.returns-clause-adds_up
 returns-clause-adds_up c = λ before new body is_of are_open chosen has_kept is_outside.
@@ -45,7 +47,7 @@ returns-clause-adds_up c = λ before new body is_of are_open chosen has_kept is_
     let input = c.args.input.now in
     let kept = map kept_of c.args.kept.now in
     let plan = c.in_ok-epoch.epoch.plan in
-    let places = map place_of c.in_ok-epoch.epoch.places in
+    let places = flat_map stretch_places c.in_ok-epoch.epoch.leaves in
     adds_up before new input body c.args.readers.now frames kept plan places
     (has_epoch before new input body c.args.readers.now frames kept plan places
     (record { readers_are_open = are_open; frames_are_chosen = chosen; has_kept = has_kept; plan_stands = returns-clause-stands_for c (before ++ new) is_of is_outside }))

@@ -2,15 +2,16 @@ use Rattle.std.proofs.Common.{◌∙◌, ◌+◌, length, ap, refl}
 use Rattle.std.specs.List.{flat_map}
 use Rattle.stream_match.specs.Weave.{total}
 use Rattle.stream_match.specs.EpochPlan.{leaving_reaches}
-use Rattle.stream_match.specs.EpochCode.{IsRead, IsLeft, CanLeave, stretch_places, stretches_from, with_positions}
+use Rattle.stream_match.specs.EpochCode.{IsRead, IsLeft, CanLeave, stretches_from, with_positions}
+use Rattle.stream_match.specs.Stretch.{stretch_places}
 use Rattle.stream_match.proofs.Rows.{places_from_stretches}
 use Rattle.stream_match.proofs.EpochRows.{leaving_can}
 use Rattle.stream_match.proofs.EpochMade.{rows_of, leaves_end, no_places}
 use Rattle.stream_match.proofs.Behind.{over_positions}
 use Rattle.stream_match.proofs.epoch.weave.Goals as goal
 
-pub places-requires : goal.places-requires
-places-requires c =
+pub returns-clause-small : goal.returns-clause-small
+returns-clause-small c =
     let layout = c.args.layout.now in
     let frames = c.args.frames.now in
     let read = c.in_ok-read.ensures in
@@ -18,8 +19,8 @@ places-requires c =
     let sink = leaving_reaches layout frames c.args.cursors.now in
     let is_read : IsRead layout frames c.in_ok-read.read = record { stretches_are = read.stretches; next_is = read.next } in
     let is_left : IsLeft layout frames sink c.in_ok-left.left = record { stretches_are = left.stretches ∙ ap (λ n. with_positions (stretches_from (length frames) n sink)) read.next; next_is = left.next ∙ ap (λ n. n + total sink) read.next } in
-    leaves_end layout c.requires.layout frames c.requires.frames sink (leaving_can layout c.requires.layout frames c.requires.frames c.args.cursors.now c.requires.cursors c.requires.small) c.in_ok-read.read.stretches c.as_slice.result.now c.in_ok-read.read.next c.in_ok-left.left.next
-    (rows_of layout frames sink c.in_ok-read.read c.in_ok-left.left c.in_ok-read.read.stretches c.as_slice.result.now is_read is_left refl c.as_slice.ensures)
+    leaves_end layout c.requires.layout frames c.requires.frames sink (leaving_can layout c.requires.layout frames c.requires.frames c.args.cursors.now c.requires.cursors c.requires.small) c.in_ok-read.read.stretches c.in_ok-left.left.stretches c.in_ok-read.read.next c.in_ok-left.left.next
+    (rows_of layout frames sink c.in_ok-read.read c.in_ok-left.left c.in_ok-read.read.stretches c.in_ok-left.left.stretches is_read is_left refl refl)
 
 pub weave_rows-requires-clause-read : goal.weave_rows-requires-clause-read
 weave_rows-requires-clause-read c = record { stretches_are = c.in_ok-read.ensures.stretches; next_is = c.in_ok-read.ensures.next }
@@ -47,5 +48,5 @@ returns-clause-plan c =
     let is_left : IsLeft layout frames sink c.in_ok-left.left = record { stretches_are = left.stretches ∙ ap (λ n. with_positions (stretches_from (length frames) n sink)) read.next; next_is = left.next ∙ ap (λ n. n + total sink) read.next } in
     record {
       woven = c.in_ok-plan.ensures sink can is_left;
-      places_are = c.in_ok-places.ensures ∙ ap (flat_map stretch_places) (c.as_slice.ensures ∙ left.stretches) ∙ over_positions stretch_places (stretches_from (length frames) c.in_ok-read.read.next sink) no_places ∙ places_from_stretches (length frames) c.in_ok-read.read.next sink;
+      places_are = ap (flat_map stretch_places) left.stretches ∙ over_positions stretch_places (stretches_from (length frames) c.in_ok-read.read.next sink) no_places ∙ places_from_stretches (length frames) c.in_ok-read.read.next sink;
     }
