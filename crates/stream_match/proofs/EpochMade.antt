@@ -8,6 +8,7 @@ use Rattle.flow_core_laws.specs.declared.plan.Piece.{Piece}
 use Rattle.stream_match.specs.declared.kept.Kept.{Kept}
 use Rattle.stream_match_layouts.specs.declared.layout.Layout.{Layout}
 use Rattle.stream_match.specs.declared.stretch.Stretch.{Stretch}
+use Rattle.stream_match.specs.declared.reaching.Left.{Left}
 use Rattle.stream_match.specs.declared.reaching.Reaching.{Reaching}
 use Rattle.stream_match_layouts.specs.Layout.{IsLayout}
 use Rattle.stream_match.specs.Stretch.{by_frame, stretch_places}
@@ -34,13 +35,20 @@ pub record AreRows (layout : Layout) (frames : List ℕ) (sink : List Reach) (re
   pub next_is : next ≡ reads_before layout frames (length frames)
   pub end_is : end ≡ next + total sink
 
-pub rows_of : (layout : Layout) (frames : List ℕ) (sink : List Reach) (read left : Reaching) (reads leaves : List Stretch) → IsRead layout frames read → IsLeft layout frames sink left → reads ≡ read.stretches → leaves ≡ left.stretches → AreRows layout frames sink reads leaves read.next left.next
+pub rows_of : (layout : Layout) (frames : List ℕ) (sink : List Reach) (read : Reaching) (left : Left) (reads leaves : List Stretch) → IsRead layout frames read → IsLeft layout frames sink left → reads ≡ read.stretches → leaves ≡ left.stretches → AreRows layout frames sink reads leaves read.next left.next
 rows_of layout frames sink read left reads leaves is_read is_left reads_are leaves_are = record {
   reads_are = reads_are ∙ is_read.stretches_are;
   leaves_are = leaves_are ∙ is_left.stretches_are ∙ ap (λ n. with_positions (stretches_from (length frames) n sink)) (sym is_read.next_is);
   next_is = is_read.next_is;
   end_is = is_left.next_is ∙ ap (λ n. n + total sink) (sym is_read.next_is);
 }
+
+-- the pieces into what is read and into what leaves
+pub gathered_both : (layout : Layout) (frames : List ℕ) (sink : List Reach) (left : Left) (reads leaves : List Stretch) (first behind pieces : List Piece) → IsLeft layout frames sink left → leaves ≡ left.stretches
+    → first ≡ flat_map (pieces_for layout frames) reads → behind ≡ left.pieces → pieces ≡ first ++ behind → pieces ≡ flat_map (pieces_for layout frames) reads ++ flat_map (pieces_for layout frames) leaves
+gathered_both layout frames sink left reads leaves first behind pieces is_left leaves_are first_are behind_are both =
+    both ∙ ap (λ ps. ps ++ behind) first_are
+    ∙ ap (λ ps. flat_map (pieces_for layout frames) reads ++ ps) (behind_are ∙ is_left.pieces_are ∙ ap (flat_map (pieces_for layout frames)) (sym leaves_are))
 
 -- a stretch without positions has no pieces and no cells
 no_pieces : (layout : Layout) (frames : List ℕ) (s : Stretch) → s.count ≡ 0 → pieces_for layout frames s ≡ []

@@ -14,6 +14,7 @@ pub mod LookUp
 pub mod Gathering
 pub mod Opening
 pub mod Behind
+pub mod Leaves
 pub mod Rows
 pub mod Waits
 pub mod EpochRows

@@ -1,5 +1,5 @@
 -- What restates private functions of the plan of an epoch.
-use Rattle.std.specs.Prelude.{◌≡◌, ℕ, ◌+◌, ◌<◌, ◌≤◌, ◌⊎◌, ◌==◌, if◌then◌else◌, List, [], ◌∷◌, Option, Some, None, slice_get}
+use Rattle.std.specs.Prelude.{◌≡◌, ℕ, ◌+◌, ◌<◌, ◌≤◌, ◌⊎◌, ◌==◌, if◌then◌else◌, List, [], ◌∷◌, ◌++◌, Option, Some, None, slice_get}
 use Rattle.std.specs.Prelude.{slice_index, length, map, filter, nat_lt, sum_by, take, count_by, is_none, ◌^◌, All}
 use Rattle.std.specs.Option.{option_map_or}
 use Rattle.std.specs.List.{flat_map, range_with_len}
@@ -11,11 +11,13 @@ use Rattle.stream_match.specs.declared.kept.Kept.{Kept}
 use Rattle.stream_match.specs.Kept.{kept_of}
 use Rattle.stream_match_layouts.specs.declared.layout.Layout.{Layout}
 use Rattle.stream_match.specs.declared.stretch.Stretch.{Stretch}
+use Rattle.stream_match.specs.declared.reaching.Left.{Left}
 use Rattle.stream_match.specs.declared.reaching.Reaching.{Reaching}
+use Rattle.stream_match_layouts.specs.declared.span.Span.{Span}
 use Rattle.stream_match_layouts.specs.Spans.{read_count, write_count, spans_of}
 use Rattle.stream_match.specs.Stretch.{pieces_into, pieces_from, by_frame}
 use Rattle.stream_match.specs.Weave.{Reach, total}
-use Rattle.stream_match.specs.EpochPlan.{read_reach, epoch_opening}
+use Rattle.stream_match.specs.EpochPlan.{read_reach, staying, leaving_reach, epoch_opening}
 
 -- the numbers ascend
 abbrev pub Ascend : List ℕ → Type 0
@@ -72,6 +74,18 @@ stretches_from to at (r ∷ rs) = record { to = to; stream = r.stream; first = r
 abbrev pub with_positions : List Stretch → List Stretch
 with_positions stretches = filter (λ (s : Stretch). nat_lt 0 s.count) stretches
 
+-- the piece into the sink from what a span of the frame of a number writes and leaves, where that has a position
+abbrev pub left_piece : List ℕ → (from to at : ℕ) → Span → List Piece
+left_piece cursors from to at s =
+    if nat_lt 0 (leaving_reach cursors s).count
+    then record { from = from; to = to; first = s.offset + staying cursors s; count = (leaving_reach cursors s).count; at = at } ∷ []
+    else []
+
+-- those from spans, from a first cell on
+abbrev pub left_pieces : List ℕ → (from to at : ℕ) → List Span → List Piece
+left_pieces cursors from to at [] = []
+left_pieces cursors from to at (s ∷ ss) = left_piece cursors from to at s ++ left_pieces cursors from to (at + (leaving_reach cursors s).count) ss
+
 -- how many cells the first frames read
 abbrev pub reads_before : Layout → List ℕ → ℕ → ℕ
 reads_before layout frames f = sum_by (λ a. sum_by read_count (spans_of layout a)) (take f frames)
@@ -96,9 +110,10 @@ pub record IsRead (layout : Layout) (frames : List ℕ) (read : Reaching) : Type
   pub stretches_are : read.stretches ≡ with_positions (flat_map (read_part layout frames) (range_with_len 0 (length frames)))
   pub next_is : read.next ≡ reads_before layout frames (length frames)
 
--- What leaves frames: stretches with positions behind the cells that they read, and the cell behind them.
-pub record IsLeft (layout : Layout) (frames : List ℕ) (sink : List Reach) (left : Reaching) : Type 0 where
+-- What leaves frames: stretches with positions behind the cells that they read, the pieces into them, and the cell behind them.
+pub record IsLeft (layout : Layout) (frames : List ℕ) (sink : List Reach) (left : Left) : Type 0 where
   pub stretches_are : left.stretches ≡ with_positions (stretches_from (length frames) (reads_before layout frames (length frames)) sink)
+  pub pieces_are : left.pieces ≡ flat_map (pieces_for layout frames) left.stretches
   pub next_is : left.next ≡ reads_before layout frames (length frames) + total sink
 
 -- Reaches can leave frames: they are of streams of the layout, and no number passes the end of its type.

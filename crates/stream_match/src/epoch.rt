@@ -14,7 +14,7 @@ ghost use Rattle.stream_match.specs.Stretch.{stretch_places};
 use crate::cursors::read_cursors;
 use crate::kept::Kept;
 use crate::look_up::sorted;
-use crate::reaching::{Reaching, leaving, reading};
+use crate::reaching::{Left, leaving, reading};
 use crate::stretch::Stretch;
 use crate::woven::weave_rows;
 use flow_core_laws::Plan;
@@ -116,7 +116,7 @@ fn weave(
     let left = leaving(alloc, layout, frames, cursors, read.next)?;
     let plan = weave_rows(alloc, layout, frames, &read, &left, kept, input)?;
     let frames = List::from_slice(alloc, frames)?;
-    let Reaching { stretches, .. } = left;
+    let Left { stretches, .. } = left;
     Ok(EpochPlan {
         plan,
         frames,

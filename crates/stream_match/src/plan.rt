@@ -7,7 +7,8 @@ ghost use Rattle.stream_match.specs.Weave.{IsWoven};
 ghost use Rattle.stream_match.specs.Whole.{all_frames, output_reach, whole_weave};
 ghost use Rattle.stream_match.specs.EpochCode.{IsLeft, reads_before};
 
-use crate::reaching::{Reaching, reading};
+use crate::gather::gathered;
+use crate::reaching::{Left, Reaching, reading};
 use crate::woven::weave_rows;
 use flow_core_laws::Plan;
 use os_io::{List, Memory};
@@ -28,7 +29,7 @@ pub fn build(alloc: Global, layout: &Layout, input: &[u8]) -> Result<Plan, Memor
 {
     let all = all_frames(alloc, layout)?;
     let read = reading(alloc, layout, all.as_slice())?;
-    let left = output(alloc, layout, read.next)?;
+    let left = output(alloc, layout, all.as_slice(), read.next)?;
     let kept = Vec::new(alloc);
     let plan = weave_rows(
         alloc,
@@ -56,8 +57,9 @@ fn all_frames(alloc: Global, layout: &Layout) -> Result<Vec<u32>, Memory>
 }
 
 /// The positions of the output that are claimed for writing, behind the cells of all frames.
-fn output(alloc: Global, layout: &Layout, next: u32) -> Result<Reaching, Memory>
+fn output(alloc: Global, layout: &Layout, frames: &[u32], next: u32) -> Result<Left, Memory>
     requires layout { IsLayout layout.now }
+    requires frames { frames.now ≡ all_frames layout.now }
     requires next { next ≡ reads_before layout.now (all_frames layout.now) (length (all_frames layout.now)) }
     ensures { IfOk result (IsLeft layout.now (all_frames layout.now) (output_reach layout.now ∷ [])) }
 {
@@ -67,5 +69,11 @@ fn output(alloc: Global, layout: &Layout, next: u32) -> Result<Reaching, Memory>
         next,
     };
     left.add(layout.frames() as u32, 1, 0, count as u32)?;
-    Ok(left)
+    let stretches = left.stretches;
+    let pieces = gathered(alloc, layout, frames, stretches.as_slice())?;
+    Ok(Left {
+        stretches,
+        pieces,
+        next: left.next,
+    })
 }

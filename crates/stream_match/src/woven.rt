@@ -10,10 +10,9 @@ ghost use Rattle.stream_match.specs.EpochCode.{Ascend, AreSorted, empty_in, piec
 
 use crate::epoch_frames::epoch_frames;
 use crate::filling::{Filled, fill};
-use crate::gather::{gather, place_by_frame};
+use crate::gather::{append, gathered, place_by_frame};
 use crate::kept::Kept;
-use crate::nearby::Nearby;
-use crate::reaching::Reaching;
+use crate::reaching::{Left, Reaching};
 use crate::stretch::Stretch;
 use flow_core_laws::{FramePlan, Piece, Plan};
 use os_io::{List, Memory};
@@ -26,7 +25,7 @@ pub(crate) fn weave_rows(
     layout: &Layout,
     frames: &[u32],
     read: &Reaching,
-    left: &Reaching,
+    left: &Left,
     kept: &[Kept],
     input: &[u8],
 ) -> Result<Plan, Memory>
@@ -41,7 +40,8 @@ pub(crate) fn weave_rows(
     let reads = read.stretches.as_slice();
     let leaves = left.stretches.as_slice();
     let filled = filled(alloc, frames.len(), kept, input, reads, leaves, left.next)?;
-    let pieces = gathered(alloc, layout, frames, reads, leaves)?;
+    let mut pieces = gathered(alloc, layout, frames, reads)?;
+    append(&mut pieces, left.pieces.as_slice())?;
     let waits = filled.waits.as_slice();
     let plans = epoch_frames(alloc, layout, frames, pieces.as_slice(), waits)?;
     let placed = place_by_frame(alloc, pieces.as_slice(), plans.as_slice())?;
@@ -92,26 +92,4 @@ fn filled(
     fill(&mut cells, &mut waits, kept, input, reads)?;
     fill(&mut cells, &mut waits, kept, input, leaves)?;
     Ok(Filled { cells, waits })
-}
-
-/// The pieces into what is read and into what leaves.
-fn gathered(
-    alloc: Global,
-    layout: &Layout,
-    frames: &[u32],
-    reads: &[Stretch],
-    leaves: &[Stretch],
-) -> Result<List<Piece>, Memory>
-    requires ascend { Ascend frames.now }
-    requires few { length frames.now < 2 ^ 32 }
-    requires reads { All (IsStretch layout.now) reads.now }
-    requires leaves { All (IsStretch layout.now) leaves.now }
-    ensures { IfOk result (λ pieces. pieces ≡ flat_map (pieces_for layout.now frames.now) reads.now
-        ++ flat_map (pieces_for layout.now frames.now) leaves.now) }
-{
-    let mut pieces = List::with_capacity(alloc, reads.len().saturating_add(leaves.len()))?;
-    let mut nearby = Nearby::new(alloc, layout.writers.len())?;
-    gather(&mut pieces, layout, frames, reads, &mut nearby)?;
-    gather(&mut pieces, layout, frames, leaves, &mut nearby)?;
-    Ok(pieces)
 }

@@ -18,7 +18,7 @@ returns-clause-small c =
     let left = c.in_ok-left.ensures in
     let sink = leaving_reaches layout frames c.args.cursors.now in
     let is_read : IsRead layout frames c.in_ok-read.read = record { stretches_are = read.stretches; next_is = read.next } in
-    let is_left : IsLeft layout frames sink c.in_ok-left.left = record { stretches_are = left.stretches ∙ ap (λ n. with_positions (stretches_from (length frames) n sink)) read.next; next_is = left.next ∙ ap (λ n. n + total sink) read.next } in
+    let is_left : IsLeft layout frames sink c.in_ok-left.left = record { stretches_are = left.stretches ∙ ap (λ n. with_positions (stretches_from (length frames) n sink)) read.next; pieces_are = left.pieces; next_is = left.next ∙ ap (λ n. n + total sink) read.next } in
     leaves_end layout c.requires.layout frames c.requires.frames sink (leaving_can layout c.requires.layout frames c.requires.frames c.args.cursors.now c.requires.cursors c.requires.small) c.in_ok-read.read.stretches c.in_ok-left.left.stretches c.in_ok-read.read.next c.in_ok-left.left.next
     (rows_of layout frames sink c.in_ok-read.read c.in_ok-left.left c.in_ok-read.read.stretches c.in_ok-left.left.stretches is_read is_left refl refl)
 
@@ -34,7 +34,7 @@ weave_rows-requires-clause-left c =
     let sink = leaving_reaches layout frames c.args.cursors.now in (
       sink,
       leaving_can layout c.requires.layout frames c.requires.frames c.args.cursors.now c.requires.cursors c.requires.small,
-      record { stretches_are = left.stretches ∙ ap (λ n. with_positions (stretches_from (length frames) n sink)) read.next; next_is = left.next ∙ ap (λ n. n + total sink) read.next },
+      record { stretches_are = left.stretches ∙ ap (λ n. with_positions (stretches_from (length frames) n sink)) read.next; pieces_are = left.pieces; next_is = left.next ∙ ap (λ n. n + total sink) read.next },
     )
 
 pub returns-clause-plan : goal.returns-clause-plan
@@ -45,7 +45,7 @@ returns-clause-plan c =
     let left = c.in_ok-left.ensures in
     let sink = leaving_reaches layout frames c.args.cursors.now in
     let can : CanLeave layout frames sink = leaving_can layout c.requires.layout frames c.requires.frames c.args.cursors.now c.requires.cursors c.requires.small in
-    let is_left : IsLeft layout frames sink c.in_ok-left.left = record { stretches_are = left.stretches ∙ ap (λ n. with_positions (stretches_from (length frames) n sink)) read.next; next_is = left.next ∙ ap (λ n. n + total sink) read.next } in
+    let is_left : IsLeft layout frames sink c.in_ok-left.left = record { stretches_are = left.stretches ∙ ap (λ n. with_positions (stretches_from (length frames) n sink)) read.next; pieces_are = left.pieces; next_is = left.next ∙ ap (λ n. n + total sink) read.next } in
     record {
       woven = c.in_ok-plan.ensures sink can is_left;
       places_are = ap (flat_map stretch_places) left.stretches ∙ over_positions stretch_places (stretches_from (length frames) c.in_ok-read.read.next sink) no_places ∙ places_from_stretches (length frames) c.in_ok-read.read.next sink;

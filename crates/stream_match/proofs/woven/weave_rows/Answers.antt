@@ -10,7 +10,7 @@ use Rattle.stream_match.specs.Walking.{HasPlace}
 use Rattle.stream_match.specs.EpochCode.{epoch_frame, filled_cells}
 use Rattle.stream_match.proofs.Behind.{few_frames}
 use Rattle.stream_match.proofs.EpochRows.{has_place}
-use Rattle.stream_match.proofs.EpochMade.{rows_of, reads_stretches, leaves_stretches, reads_into_frames, leaves_into_sink, reads_end, leaves_end, pieces_from_frames, pieces_are_few, cells_end, end_few, plan_made}
+use Rattle.stream_match.proofs.EpochMade.{rows_of, gathered_both, reads_stretches, reads_into_frames, leaves_into_sink, reads_end, leaves_end, pieces_from_frames, pieces_are_few, cells_end, end_few, plan_made}
 use Rattle.stream_match.proofs.woven.weave_rows.Goals as goal
 
 plans_count : (plans : List FramePlan) (layout : Layout) (frames : List ℕ) (pieces : List Piece) (waits : List ℕ) → plans ≡ map (epoch_frame layout frames pieces waits) (range_with_len 0 (length frames)) → length plans ≡ length frames
@@ -75,23 +75,14 @@ gathered-requires-clause-few c =
     let rows = rows_of layout frames sink c.args.read.now c.args.left.now c.as_slice-reads.result.now c.as_slice-leaves.result.now c.requires.read c.requires.left.2 c.as_slice-reads.ensures c.as_slice-leaves.ensures in
     omega (arith, few_frames layout is frames c.requires.frames)
 
-pub gathered-requires-clause-reads : goal.gathered-requires-clause-reads
-gathered-requires-clause-reads c =
+pub gathered-requires-clause-stretches : goal.gathered-requires-clause-stretches
+gathered-requires-clause-stretches c =
     let layout = c.args.layout.now in
     let is = c.requires.layout in
     let frames = c.args.frames.now in
     let sink = c.requires.left.0 in
     let rows = rows_of layout frames sink c.args.read.now c.args.left.now c.as_slice-reads.result.now c.as_slice-leaves.result.now c.requires.read c.requires.left.2 c.as_slice-reads.ensures c.as_slice-leaves.ensures in
     reads_stretches layout is frames c.requires.frames sink c.requires.left.1 c.as_slice-reads.result.now c.as_slice-leaves.result.now c.args.read.now.next c.args.left.now.next rows
-
-pub gathered-requires-clause-leaves : goal.gathered-requires-clause-leaves
-gathered-requires-clause-leaves c =
-    let layout = c.args.layout.now in
-    let is = c.requires.layout in
-    let frames = c.args.frames.now in
-    let sink = c.requires.left.0 in
-    let rows = rows_of layout frames sink c.args.read.now c.args.left.now c.as_slice-reads.result.now c.as_slice-leaves.result.now c.requires.read c.requires.left.2 c.as_slice-reads.ensures c.as_slice-leaves.ensures in
-    leaves_stretches layout is frames c.requires.frames sink c.requires.left.1 c.as_slice-reads.result.now c.as_slice-leaves.result.now c.args.read.now.next c.args.left.now.next rows
 
 pub epoch_frames-requires-clause-from : goal.epoch_frames-requires-clause-from
 epoch_frames-requires-clause-from c =
@@ -100,7 +91,7 @@ epoch_frames-requires-clause-from c =
     let frames = c.args.frames.now in
     let sink = c.requires.left.0 in
     let rows = rows_of layout frames sink c.args.read.now c.args.left.now c.as_slice-reads.result.now c.as_slice-leaves.result.now c.requires.read c.requires.left.2 c.as_slice-reads.ensures c.as_slice-leaves.ensures in
-    pieces_from_frames layout is frames c.requires.frames sink c.requires.left.1 c.as_slice-reads.result.now c.as_slice-leaves.result.now c.args.read.now.next c.args.left.now.next rows c.args.input.now c.args.kept.now c.as_slice.result.now (c.as_slice.ensures ∙ c.in_ok-pieces.ensures)
+    pieces_from_frames layout is frames c.requires.frames sink c.requires.left.1 c.as_slice-reads.result.now c.as_slice-leaves.result.now c.args.read.now.next c.args.left.now.next rows c.args.input.now c.args.kept.now c.as_slice-2.result.now (c.as_slice-2.ensures ∙ (gathered_both c.args.layout.now c.args.frames.now c.requires.left.0 c.args.left.now c.as_slice-reads.result.now c.as_slice-leaves.result.now c.in_ok-pieces.pieces c.as_slice.result.now c.append.new.pieces c.requires.left.2 c.as_slice-leaves.ensures c.in_ok-pieces.ensures c.as_slice.ensures c.in_ok-append.ensures))
 
 pub epoch_frames-requires-clause-few : goal.epoch_frames-requires-clause-few
 epoch_frames-requires-clause-few c =
@@ -109,7 +100,7 @@ epoch_frames-requires-clause-few c =
     let frames = c.args.frames.now in
     let sink = c.requires.left.0 in
     let rows = rows_of layout frames sink c.args.read.now c.args.left.now c.as_slice-reads.result.now c.as_slice-leaves.result.now c.requires.read c.requires.left.2 c.as_slice-reads.ensures c.as_slice-leaves.ensures in
-    omega (arith, pieces_are_few layout is frames c.requires.frames sink c.requires.left.1 c.as_slice-reads.result.now c.as_slice-leaves.result.now c.args.read.now.next c.args.left.now.next rows c.as_slice.result.now (c.as_slice.ensures ∙ c.in_ok-pieces.ensures))
+    omega (arith, pieces_are_few layout is frames c.requires.frames sink c.requires.left.1 c.as_slice-reads.result.now c.as_slice-leaves.result.now c.args.read.now.next c.args.left.now.next rows c.as_slice-2.result.now (c.as_slice-2.ensures ∙ (gathered_both c.args.layout.now c.args.frames.now c.requires.left.0 c.args.left.now c.as_slice-reads.result.now c.as_slice-leaves.result.now c.in_ok-pieces.pieces c.as_slice.result.now c.append.new.pieces c.requires.left.2 c.as_slice-leaves.ensures c.in_ok-pieces.ensures c.as_slice.ensures c.in_ok-append.ensures)))
 
 pub epoch_frames-requires-clause-waits : goal.epoch_frames-requires-clause-waits
 epoch_frames-requires-clause-waits c = ap length c.as_slice-waits.ensures.value ∙ c.in_ok-filled.ensures.frames
@@ -121,7 +112,7 @@ place_by_frame-requires-clause-from c =
     let frames = c.args.frames.now in
     let sink = c.requires.left.0 in
     let rows = rows_of layout frames sink c.args.read.now c.args.left.now c.as_slice-reads.result.now c.as_slice-leaves.result.now c.requires.read c.requires.left.2 c.as_slice-reads.ensures c.as_slice-leaves.ensures in
-    subst (λ n. All (λ (p : Piece). p.from < n) c.as_slice-2.result.now) (sym (plans_count c.as_slice-3.result.now layout frames c.as_slice.result.now c.as_slice-waits.result.now (c.as_slice-3.ensures ∙ c.in_ok-plans.ensures))) (pieces_from_frames layout is frames c.requires.frames sink c.requires.left.1 c.as_slice-reads.result.now c.as_slice-leaves.result.now c.args.read.now.next c.args.left.now.next rows c.args.input.now c.args.kept.now c.as_slice-2.result.now (c.as_slice-2.ensures ∙ c.in_ok-pieces.ensures))
+    subst (λ n. All (λ (p : Piece). p.from < n) c.as_slice-3.result.now) (sym (plans_count c.as_slice-4.result.now layout frames c.as_slice-2.result.now c.as_slice-waits.result.now (c.as_slice-4.ensures ∙ c.in_ok-plans.ensures))) (pieces_from_frames layout is frames c.requires.frames sink c.requires.left.1 c.as_slice-reads.result.now c.as_slice-leaves.result.now c.args.read.now.next c.args.left.now.next rows c.args.input.now c.args.kept.now c.as_slice-3.result.now (c.as_slice-3.ensures ∙ (gathered_both c.args.layout.now c.args.frames.now c.requires.left.0 c.args.left.now c.as_slice-reads.result.now c.as_slice-leaves.result.now c.in_ok-pieces.pieces c.as_slice.result.now c.append.new.pieces c.requires.left.2 c.as_slice-leaves.ensures c.in_ok-pieces.ensures c.as_slice.ensures c.in_ok-append.ensures)))
 
 pub place_by_frame-requires-clause-few : goal.place_by_frame-requires-clause-few
 place_by_frame-requires-clause-few c =
@@ -130,7 +121,7 @@ place_by_frame-requires-clause-few c =
     let frames = c.args.frames.now in
     let sink = c.requires.left.0 in
     let rows = rows_of layout frames sink c.args.read.now c.args.left.now c.as_slice-reads.result.now c.as_slice-leaves.result.now c.requires.read c.requires.left.2 c.as_slice-reads.ensures c.as_slice-leaves.ensures in
-    omega (arith, pieces_are_few layout is frames c.requires.frames sink c.requires.left.1 c.as_slice-reads.result.now c.as_slice-leaves.result.now c.args.read.now.next c.args.left.now.next rows c.as_slice-2.result.now (c.as_slice-2.ensures ∙ c.in_ok-pieces.ensures))
+    omega (arith, pieces_are_few layout is frames c.requires.frames sink c.requires.left.1 c.as_slice-reads.result.now c.as_slice-leaves.result.now c.args.read.now.next c.args.left.now.next rows c.as_slice-3.result.now (c.as_slice-3.ensures ∙ (gathered_both c.args.layout.now c.args.frames.now c.requires.left.0 c.args.left.now c.as_slice-reads.result.now c.as_slice-leaves.result.now c.in_ok-pieces.pieces c.as_slice.result.now c.append.new.pieces c.requires.left.2 c.as_slice-leaves.ensures c.in_ok-pieces.ensures c.as_slice.ensures c.in_ok-append.ensures)))
 
 pub place_by_frame-requires-clause-places : goal.place_by_frame-requires-clause-places
 place_by_frame-requires-clause-places c =
@@ -139,7 +130,7 @@ place_by_frame-requires-clause-places c =
     let frames = c.args.frames.now in
     let sink = c.requires.left.0 in
     let rows = rows_of layout frames sink c.args.read.now c.args.left.now c.as_slice-reads.result.now c.as_slice-leaves.result.now c.requires.read c.requires.left.2 c.as_slice-reads.ensures c.as_slice-leaves.ensures in
-    subst (λ n. HasPlace c.as_slice-3.result.now c.as_slice-2.result.now n) (sym (plans_count c.as_slice-3.result.now layout frames c.as_slice.result.now c.as_slice-waits.result.now (c.as_slice-3.ensures ∙ c.in_ok-plans.ensures))) (subst (λ ps. HasPlace c.as_slice-3.result.now ps (length frames)) (c.as_slice.ensures ∙ sym c.as_slice-2.ensures) (has_place layout frames c.as_slice.result.now c.as_slice-waits.result.now c.as_slice-3.result.now (c.as_slice-3.ensures ∙ c.in_ok-plans.ensures)))
+    subst (λ n. HasPlace c.as_slice-4.result.now c.as_slice-3.result.now n) (sym (plans_count c.as_slice-4.result.now layout frames c.as_slice-2.result.now c.as_slice-waits.result.now (c.as_slice-4.ensures ∙ c.in_ok-plans.ensures))) (subst (λ ps. HasPlace c.as_slice-4.result.now ps (length frames)) (c.as_slice-2.ensures ∙ sym c.as_slice-3.ensures) (has_place layout frames c.as_slice-2.result.now c.as_slice-waits.result.now c.as_slice-4.result.now (c.as_slice-4.ensures ∙ c.in_ok-plans.ensures)))
 
 pub bounds-waits-frames : goal.bounds-waits-frames
 bounds-waits-frames c = omega (arith, ap length c.as_slice-waits.ensures.value, c.in_ok-filled.ensures.frames)
@@ -151,7 +142,7 @@ overflow_cast-sink c =
     let frames = c.args.frames.now in
     let sink = c.requires.left.0 in
     let rows = rows_of layout frames sink c.args.read.now c.args.left.now c.as_slice-reads.result.now c.as_slice-leaves.result.now c.requires.read c.requires.left.2 c.as_slice-reads.ensures c.as_slice-leaves.ensures in
-    omega (arith, ap length c.in_ok-pieces.ensures, c.len.ensures, pieces_are_few layout is frames c.requires.frames sink c.requires.left.1 c.as_slice-reads.result.now c.as_slice-leaves.result.now c.args.read.now.next c.args.left.now.next rows c.in_ok-pieces.pieces c.in_ok-pieces.ensures)
+    omega (arith, ap length (gathered_both c.args.layout.now c.args.frames.now c.requires.left.0 c.args.left.now c.as_slice-reads.result.now c.as_slice-leaves.result.now c.in_ok-pieces.pieces c.as_slice.result.now c.append.new.pieces c.requires.left.2 c.as_slice-leaves.ensures c.in_ok-pieces.ensures c.as_slice.ensures c.in_ok-append.ensures), c.len.ensures, pieces_are_few layout is frames c.requires.frames sink c.requires.left.1 c.as_slice-reads.result.now c.as_slice-leaves.result.now c.args.read.now.next c.args.left.now.next rows c.append.new.pieces (gathered_both c.args.layout.now c.args.frames.now c.requires.left.0 c.args.left.now c.as_slice-reads.result.now c.as_slice-leaves.result.now c.in_ok-pieces.pieces c.as_slice.result.now c.append.new.pieces c.requires.left.2 c.as_slice-leaves.ensures c.in_ok-pieces.ensures c.as_slice.ensures c.in_ok-append.ensures))
 
 pub returns : goal.returns
 returns c = λ sink can is_left.
@@ -161,12 +152,12 @@ returns c = λ sink can is_left.
     let rows = rows_of layout frames sink c.args.read.now c.args.left.now c.as_slice-reads.result.now c.as_slice-leaves.result.now c.requires.read is_left c.as_slice-reads.ensures c.as_slice-leaves.ensures in
     let waits = c.as_slice-waits.result.now in
     let waits_are = c.as_slice-waits.ensures.value in
-    plan_made layout is frames c.requires.frames sink can c.as_slice-reads.result.now c.as_slice-leaves.result.now c.args.read.now.next c.args.left.now.next rows c.args.input.now c.args.kept.now c.in_ok-filled.filled.cells waits c.in_ok-pieces.pieces c.in_ok-plans.plans c.in_ok-placed.placed c.in_ok-numbers.numbers (c.args.left.now.next - c.args.read.now.next) (get_or waits (length frames) 0) c.len.result
+    plan_made layout is frames c.requires.frames sink can c.as_slice-reads.result.now c.as_slice-leaves.result.now c.args.read.now.next c.args.left.now.next rows c.args.input.now c.args.kept.now c.in_ok-filled.filled.cells waits c.append.new.pieces c.in_ok-plans.plans c.in_ok-placed.placed c.in_ok-numbers.numbers (c.args.left.now.next - c.args.read.now.next) (get_or waits (length frames) 0) c.len.result
     c.in_ok-filled.ensures.cells
     (λ f lt. ap (λ xs. get_or xs f 0) waits_are ∙ c.in_ok-filled.ensures.waits f lt)
-    c.in_ok-pieces.ensures
-    (c.in_ok-plans.ensures ∙ ap (λ ps. map (epoch_frame layout frames ps waits) (range_with_len 0 (length frames))) c.as_slice.ensures)
-    (c.in_ok-placed.ensures ∙ ap (λ n. by_frame c.as_slice-2.result.now n) (plans_count c.as_slice-3.result.now layout frames c.as_slice.result.now waits (c.as_slice-3.ensures ∙ c.in_ok-plans.ensures)) ∙ ap (λ ps. by_frame ps (length frames)) c.as_slice-2.ensures)
+    (gathered_both c.args.layout.now c.args.frames.now sink c.args.left.now c.as_slice-reads.result.now c.as_slice-leaves.result.now c.in_ok-pieces.pieces c.as_slice.result.now c.append.new.pieces is_left c.as_slice-leaves.ensures c.in_ok-pieces.ensures c.as_slice.ensures c.in_ok-append.ensures)
+    (c.in_ok-plans.ensures ∙ ap (λ ps. map (epoch_frame layout frames ps waits) (range_with_len 0 (length frames))) c.as_slice-2.ensures)
+    (c.in_ok-placed.ensures ∙ ap (λ n. by_frame c.as_slice-3.result.now n) (plans_count c.as_slice-4.result.now layout frames c.as_slice-2.result.now waits (c.as_slice-4.ensures ∙ c.in_ok-plans.ensures)) ∙ ap (λ ps. by_frame ps (length frames)) c.as_slice-3.ensures)
     c.in_ok-numbers.ensures
     refl
     refl
