@@ -1,2 +1,3 @@
+pub mod FirstMissing
 pub mod Marks
 pub mod Stuck

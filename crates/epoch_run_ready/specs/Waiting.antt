@@ -40,3 +40,8 @@ pub record AreWaiting (layout : Layout) (readers : List ℕ) (waits : List Bool)
   pub one_each : length waits ≡ frame_count layout
   pub are_readers : (a : ℕ) → slice_index_or waits a false ≡ true → (f : ℕ) × (slice_get readers f ≡ Some a)
   pub wait : (a : ℕ) → slice_index_or waits a false ≡ true → HasWaitingSpan layout waits (spans_of layout a)
+
+-- The element at a position of each stream can't come.
+pub record AreMissing (layout : Layout) (waits : List Bool) (missing : List ℕ) : Type 0 where
+  pub one_each : length missing ≡ length layout.writers
+  pub cannot_come : (stream : ℕ) → stream < length layout.writers → CannotCome layout waits stream (slice_index missing stream)

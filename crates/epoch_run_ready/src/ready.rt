@@ -7,6 +7,7 @@ ghost use Rattle.stream_match_layouts.specs.Spans.{frame_count};
 ghost use Rattle.epoch_run_ready.specs.Waiting.{AreWaiting};
 
 use crate::marking::{is_marked, mark_ahead, mark_back};
+use crate::missing::behind_all;
 use os_io::{List, Memory};
 use std::alloc::Global;
 use stream_match_layouts::Layout;
@@ -33,11 +34,22 @@ fn waiting(alloc: Global, layout: &Layout, readers: &[u32]) -> Result<Vec<bool>,
 {
     let mut waits = Vec::new(alloc);
     waits.resize(layout.frames(), false)?;
-    let look = mark_back(layout, waits.as_mut_slice(), readers);
-    if !look.asks_writers() {
+    let mut missing = behind_all(alloc, layout)?;
+    let found = mark_back(
+        layout,
+        waits.as_mut_slice(),
+        missing.as_mut_slice(),
+        readers,
+    );
+    if !found {
         return Ok(waits);
     }
-    mark_ahead(layout, waits.as_mut_slice(), readers);
+    mark_ahead(
+        layout,
+        waits.as_mut_slice(),
+        missing.as_mut_slice(),
+        readers,
+    );
     Ok(waits)
 }
 
