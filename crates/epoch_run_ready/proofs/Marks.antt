@@ -41,6 +41,12 @@ missing_more layout waits a missing lt are = record {
   cannot_come = λ stream exists. cannot_more layout waits (set waits a true) (one_more waits a lt) stream (get_or missing stream 0) (are.cannot_come stream exists);
 }
 
+-- no mark stands among none
+pub no_mark : (n a : ℕ) → get_or (replicate n false) a false ≡ false
+no_mark zero a = refl
+no_mark (suc n) zero = refl
+no_mark (suc n) (suc a) = no_mark n a
+
 module _ (layout : Layout) (readers : List ℕ) where
   pub mark_more : (waits : List Bool) (n a : ℕ) → a < length waits → slice_get readers n ≡ Some a → HasWaitingSpan layout waits (spans_of layout a) → AreWaiting layout readers waits → AreWaiting layout readers (set waits a true)
   mark_more waits n a lt reads found are = record {
@@ -56,11 +62,6 @@ module _ (layout : Layout) (readers : List ℕ) where
       waits_before : (b : ℕ) → get_or (set waits a true) b false ≡ true → (b ≡ a) ⊎ (b ≢ a) → HasWaitingSpan layout waits (spans_of layout b)
       waits_before b m (inl same) = subst (λ n. HasWaitingSpan layout waits (spans_of layout n)) (sym same) found
       waits_before b m (inr other) = are.wait b (sym (get_or-set_other waits a b true false other) ∙ m)
-
-  no_mark : (n a : ℕ) → get_or (replicate n false) a false ≡ false
-  no_mark zero a = refl
-  no_mark (suc n) zero = refl
-  no_mark (suc n) (suc a) = no_mark n a
 
   -- no marks at first
   pub mark_none : (waits : List Bool) (n : ℕ) → waits ≡ replicate n false → length waits ≡ frame_count layout → AreWaiting layout readers waits

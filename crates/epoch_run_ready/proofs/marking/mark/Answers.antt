@@ -1,4 +1,4 @@
-use Rattle.std.proofs.Common.{◌<◌, ◌^◌, All, List, arith, false, get_or, length, set, subst, sym, true, ℕ}
+use Rattle.std.proofs.Common.{◌<◌, ◌^◌, All, List, arith, false, get_or, length, refl, set, subst, sym, true, ℕ}
 use Rattle.std.proofs.lemmas.List.{get_or-set_same}
 use Rattle.std.proofs.lemmas.List.Elements.{All-get_or}
 use Rattle.std.proofs.lemmas.Option.{slice_get-get_or}
@@ -49,4 +49,5 @@ returns-then-spans_wait c =
           (subst (HasWaitingSpan layout waits) c.spans_of-spans.ensures (c.spans_wait.ensures c.if-spans_wait.true)) c.requires.waiting;
       missing = missing_lowered layout c.requires.layout (set waits a true) a c.spans_of-spans.result.now c.args.missing.now c.lower.new.missing lt c.spans_of-spans.ensures
           (get_or-set_same waits a true false within) (missing_more layout waits a c.args.missing.now within c.requires.missing) c.lower.ensures.length c.lower.ensures.lowered;
+      marks = refl;
     }
