@@ -1,2 +1,4 @@
+pub mod FirstMissing
 pub mod Marks
+pub mod Passing
 pub mod Stuck

@@ -6,7 +6,7 @@ use Rattle.std.proofs.lemmas.List.{get_or-set_same, get_or-set_other, length-set
 use Rattle.stream_match_layouts.specs.Spans.{frame_count, spans_of}
 use Rattle.stream_match_layouts.specs.declared.layout.Layout.{Layout}
 use Rattle.stream_match_layouts.specs.declared.span.Span.{Span}
-use Rattle.epoch_run_ready.specs.Waiting.{AreWaiting, CannotCome, behind, stuck, HasWaitingSpan, is_stuck}
+use Rattle.epoch_run_ready.specs.Waiting.{AreMissing, AreWaiting, CannotCome, behind, stuck, HasWaitingSpan, is_stuck}
 
 -- one list of marks has all that another has
 abbrev HasMarks : List Bool → List Bool → Type 0
@@ -27,20 +27,34 @@ module _ (layout : Layout) (waits more : List Bool) (has : HasMarks waits more) 
     waits_for = record { reads = h.waits_for.reads; position = h.waits_for.position; from = h.waits_for.from; to = h.waits_for.to; cannot_come = cannot_more h.span.stream h.waits_for.position h.waits_for.cannot_come };
   }
 
+-- one more mark
+one_more : (waits : List Bool) (a : ℕ) → a < length waits → HasMarks waits (set waits a true)
+one_more waits a lt b m = elim (cases_eq b a) [
+  | inl same ↦ ap (λ n. get_or (set waits a true) n false) same ∙ get_or-set_same waits a true false lt
+  | inr other ↦ get_or-set_other waits a b true false other ∙ m
+]
+
+-- leaves what can't come
+pub missing_more : (layout : Layout) (waits : List Bool) (a : ℕ) (missing : List ℕ) → a < length waits → AreMissing layout waits missing → AreMissing layout (set waits a true) missing
+missing_more layout waits a missing lt are = record {
+  one_each = are.one_each;
+  cannot_come = λ stream exists. cannot_more layout waits (set waits a true) (one_more waits a lt) stream (get_or missing stream 0) (are.cannot_come stream exists);
+}
+
+-- no mark stands among none
+pub no_mark : (n a : ℕ) → get_or (replicate n false) a false ≡ false
+no_mark zero a = refl
+no_mark (suc n) zero = refl
+no_mark (suc n) (suc a) = no_mark n a
+
 module _ (layout : Layout) (readers : List ℕ) where
   pub mark_more : (waits : List Bool) (n a : ℕ) → a < length waits → slice_get readers n ≡ Some a → HasWaitingSpan layout waits (spans_of layout a) → AreWaiting layout readers waits → AreWaiting layout readers (set waits a true)
   mark_more waits n a lt reads found are = record {
     one_each = length-set waits a true ∙ are.one_each;
     are_readers = λ b m. is_reader b m (cases_eq b a);
-    wait = λ b m. has_more layout waits (set waits a true) has (spans_of layout b) (waits_before b m (cases_eq b a));
+    wait = λ b m. has_more layout waits (set waits a true) (one_more waits a lt) (spans_of layout b) (waits_before b m (cases_eq b a));
   }
     where
-      has : HasMarks waits (set waits a true)
-      has b m = elim (cases_eq b a) [
-        | inl same ↦ ap (λ n. get_or (set waits a true) n false) same ∙ get_or-set_same waits a true false lt
-        | inr other ↦ get_or-set_other waits a b true false other ∙ m
-      ]
-
       is_reader : (b : ℕ) → get_or (set waits a true) b false ≡ true → (b ≡ a) ⊎ (b ≢ a) → (f : ℕ) × (slice_get readers f ≡ Some b)
       is_reader b m (inl same) = (n, reads ∙ ap (λ (x : ℕ). Some x) (sym same))
       is_reader b m (inr other) = are.are_readers b (sym (get_or-set_other waits a b true false other) ∙ m)
@@ -48,11 +62,6 @@ module _ (layout : Layout) (readers : List ℕ) where
       waits_before : (b : ℕ) → get_or (set waits a true) b false ≡ true → (b ≡ a) ⊎ (b ≢ a) → HasWaitingSpan layout waits (spans_of layout b)
       waits_before b m (inl same) = subst (λ n. HasWaitingSpan layout waits (spans_of layout n)) (sym same) found
       waits_before b m (inr other) = are.wait b (sym (get_or-set_other waits a b true false other) ∙ m)
-
-  no_mark : (n a : ℕ) → get_or (replicate n false) a false ≡ false
-  no_mark zero a = refl
-  no_mark (suc n) zero = refl
-  no_mark (suc n) (suc a) = no_mark n a
 
   -- no marks at first
   pub mark_none : (waits : List Bool) (n : ℕ) → waits ≡ replicate n false → length waits ≡ frame_count layout → AreWaiting layout readers waits

@@ -5,7 +5,7 @@ use Rattle.std.specs.Option.{option_map_or}
 use Rattle.std.specs.List.{range_with_len}
 use Rattle.std.proofs.lemmas.Bool.{eqb-true}
 use Rattle.std.proofs.lemmas.List.FromFn.{get_or-map-range_with_len}
-use Rattle.std.proofs.lemmas.Option.{same_Some, slice_get_within, get_or_from_slice_get}
+use Rattle.std.proofs.lemmas.Option.{same_Some, slice_get-get_or, slice_get_within, get_or_from_slice_get}
 use Rattle.flow_core_epochs.proofs.Carried.{produced_by, produced_by_nobody}
 use Rattle.flow_core_epochs.proofs.Frames.{ascending_numbered, numbers_back, open_all, open_ascend, open_each}
 use Rattle.flow_core_epochs.proofs.Held.{written_within}
@@ -24,6 +24,7 @@ use Rattle.flow_core_laws.specs.Streams.{input_source, produced_source, stream_s
 use Rattle.flow_core_laws.specs.Window.{Window, claims_of, producer, windows, windows_of}
 use Rattle.flow_core_laws.specs.declared.activation.Activation.{Activation}
 use Rattle.flow_core_laws.specs.declared.task_end.TaskEnd.{TaskEnd}
+use Rattle.stream_match.specs.EpochCode.{Ascend}
 use Rattle.stream_match_layouts.proofs.FrameSpans.{spans_of-windows}
 use Rattle.stream_match_layouts.proofs.Tallies.{frame_count-is}
 use Rattle.stream_match_layouts.proofs.Windows.{claims_in-windows}
@@ -74,6 +75,12 @@ writer_waits layout waits span writer place number has reads other at is meet s 
       cannot_come = stuck number other (subst (λ n. n < length layout.spans) same (has.exist place lt)) (sym (ap (λ (t : Span). t.write) at_place) ∙ has.write place lt) (sym (ap (λ (t : Span). t.stream) at_place) ∙ has.on_stream place lt)
           (omega (arith, ap (λ (t : Span). t.first) is)) (omega (arith, meet.1, ap (λ (t : Span). t.first) is, ap (λ (t : Span). t.count) is)) (ap (is_stuck waits) (sym (ap (λ (t : Span). t.frame) is)) ∙ s);
     }
+
+-- the activations that have no end ascend
+pub open_readers_ascend : (ends : List (Option TaskEnd)) (count : ℕ) → Ascend (open_in ends count)
+open_readers_ascend ends count f g lt within =
+    let readers = open_in ends count in
+    open_ascend ends count f g (get_or readers f 0) (get_or readers g 0) lt (slice_get-get_or readers f 0 (omega arith)) (slice_get-get_or readers g 0 within)
 
 module _ (layout : Layout) (activations : List Activation) (of : IsLayoutOf layout activations) (input : List ℕ) (over : length input ≡ layout.input_len) (ends : List (Option TaskEnd)) (readers : List ℕ) (open_are : readers ≡ open_in ends (frame_count layout)) (waits : List Bool) (are : AreWaiting layout readers waits) where
   abbrev test : ℕ → Bool

@@ -1,2 +1,3 @@
--- What restates private functions: which activations wait, by marks.
+-- What restates private functions: which activations wait, by marks, and the first positions that can't come.
 pub mod Waiting
+pub mod Lowering

@@ -1,6 +1,7 @@
 -- Activations that wait for an element that can't come, by marks.
 use Rattle.std.specs.Prelude.{◌≡◌, ◌≢◌, ℕ, ◌<◌, ◌≤◌, ◌==◌, if◌then◌else◌, Bool, true, false, List}
-use Rattle.std.specs.Prelude.{Some, Contains, length, slice_get, slice_index, slice_index_or}
+use Rattle.std.specs.Prelude.{Some, Contains, filter, length, not, slice_get, slice_index, slice_index_or}
+use Rattle.stream_match.specs.EpochCode.{Ascend}
 use Rattle.stream_match_layouts.specs.Spans.{frame_count, spans_of}
 use Rattle.stream_match_layouts.specs.Writers.{end_of, span_at}
 use Rattle.stream_match_layouts.specs.declared.layout.Layout.{Layout}
@@ -40,3 +41,14 @@ pub record AreWaiting (layout : Layout) (readers : List ℕ) (waits : List Bool)
   pub one_each : length waits ≡ frame_count layout
   pub are_readers : (a : ℕ) → slice_index_or waits a false ≡ true → (f : ℕ) × (slice_get readers f ≡ Some a)
   pub wait : (a : ℕ) → slice_index_or waits a false ≡ true → HasWaitingSpan layout waits (spans_of layout a)
+
+-- Of each stream a position is known whose element can't come.
+pub record AreMissing (layout : Layout) (waits : List Bool) (missing : List ℕ) : Type 0 where
+  pub one_each : length missing ≡ length layout.writers
+  pub cannot_come : (stream : ℕ) → stream < length layout.writers → CannotCome layout waits stream (slice_index missing stream)
+
+-- Frames are the readers that have no mark, if the readers ascend; each that has a mark waits.
+pub record AreUnmarked (layout : Layout) (readers frames : List ℕ) : Type 0 where
+  pub waits : List Bool
+  pub are_waiting : AreWaiting layout readers waits
+  pub others : Ascend readers → frames ≡ filter (λ a. not (slice_index_or waits a false)) readers

@@ -9,8 +9,8 @@
 //! what is left out waits.
 #![tactic(auto)]
 
-mod look;
 mod marking;
+mod missing;
 mod ready;
 mod waiting;
 

@@ -1,59 +1,116 @@
-ghost use Rattle.std.specs.Prelude.{◌≡◌, ◌<◌, All, false, length, slice_index_or};
+ghost use Rattle.std.specs.Prelude.{◌≡◌, ◌≢◌, ◌<◌, ℕ, All, IfOk, false, filter, if◌then◌else◌, length, not, slice_index, slice_index_or, slice_set, true};
+ghost use Rattle.stream_match.specs.EpochCode.{Ascend};
 ghost use Rattle.stream_match_layouts.specs.Layout.{IsLayout};
 ghost use Rattle.stream_match_layouts.specs.Spans.{frame_count};
-ghost use Rattle.epoch_run_ready.specs.Waiting.{AreWaiting};
+ghost use Rattle.epoch_run_ready.specs.Waiting.{AreMissing, AreWaiting};
 
-use crate::look::Look;
+use crate::missing::lower;
 use crate::waiting::spans_wait;
+use os_io::{List, Memory};
+use std::alloc::Global;
 use stream_match_layouts::Layout;
 
 /// Marks readers that wait, the last one first: so a mark goes from each to those before it that wait for it. It answers
-/// how far the next ones are to look.
-pub(crate) fn mark_back(layout: &Layout, waits: &mut [bool], readers: &[u32]) -> Look
+/// whether any waits.
+pub(crate) fn mark_back(
+    layout: &Layout,
+    waits: &mut [bool],
+    missing: &mut [u64],
+    readers: &[u32],
+) -> bool
     requires layout { IsLayout layout.now }
     requires readers { All (λ a. a < frame_count layout.now) readers.now }
     requires waiting { AreWaiting layout.now readers.now waits.old }
-    ensures { AreWaiting layout.now readers.now waits.new }
+    requires missing { AreMissing layout.now waits.old missing.old }
+    ensures waiting { AreWaiting layout.now readers.now waits.new }
+    ensures missing { AreMissing layout.now waits.new missing.new }
 {
-    let mut look = Look::Behind;
+    let mut found = false;
     let mut left = readers.len();
     'marking: while left > 0 {
         left -= 1;
-        look = mark(layout, waits, readers, left, look);
+        if mark(layout, waits, missing, readers, left) {
+            found = true;
+        }
     }
-    look
+    found
 }
 
-/// Marks readers that wait, the first one first.
-pub(crate) fn mark_ahead(layout: &Layout, waits: &mut [bool], readers: &[u32])
+/// The readers that have no mark and don't wait, in their order. Those that wait get a mark, the first one first: so it goes from each
+/// to those behind it that wait for it, too.
+pub(crate) fn others(
+    alloc: Global,
+    layout: &Layout,
+    waits: &mut [bool],
+    missing: &mut [u64],
+    readers: &[u32],
+) -> Result<List<u32>, Memory>
     requires layout { IsLayout layout.now }
     requires readers { All (λ a. a < frame_count layout.now) readers.now }
     requires waiting { AreWaiting layout.now readers.now waits.old }
-    ensures { AreWaiting layout.now readers.now waits.new }
+    requires missing { AreMissing layout.now waits.old missing.old }
+    ensures waiting { AreWaiting layout.now readers.now waits.new }
+    ensures others { IfOk result (λ others. Ascend readers.now → others ≡ filter (λ a. not (slice_index_or waits.new a false)) readers.now) }
 {
+    let mut others = List::new(alloc);
     for number in 0..readers.len() {
-        let _ = mark(layout, waits, readers, number, Look::AtWriters);
+        if !gets_mark(layout, waits, missing, readers, number) {
+            others.push(readers[number])?;
+        }
     }
+    Ok(others)
 }
 
-/// Marks the reader of a number, if it waits. It answers how far the next one is to look.
-fn mark(layout: &Layout, waits: &mut [bool], readers: &[u32], number: usize, look: Look) -> Look
+/// Marks the reader of a number, if it waits. It answers whether the reader has a mark then.
+fn gets_mark(
+    layout: &Layout,
+    waits: &mut [bool],
+    missing: &mut [u64],
+    readers: &[u32],
+    number: usize,
+) -> bool
     requires layout { IsLayout layout.now }
     requires readers { All (λ a. a < frame_count layout.now) readers.now }
     requires exists { number < length readers.now }
     requires waiting { AreWaiting layout.now readers.now waits.old }
-    ensures { AreWaiting layout.now readers.now waits.new }
+    requires missing { AreMissing layout.now waits.old missing.old }
+    ensures waiting { AreWaiting layout.now readers.now waits.new }
+    ensures missing { AreMissing layout.now waits.new missing.new }
+    ensures marked { result ≡ slice_index_or waits.new (slice_index readers.now number) false }
+    ensures others { (a : ℕ) → a ≢ slice_index readers.now number → slice_index_or waits.new a false ≡ slice_index_or waits.old a false }
 {
-    let activation = readers[number];
-    if is_marked(waits, activation) {
-        return Look::AtWriters;
+    if is_marked(waits, readers[number]) {
+        return true;
     }
-    let spans = layout.spans_of(activation as usize);
-    if spans_wait(layout, waits, spans, look) {
-        waits[activation as usize] = true;
-        return Look::AtWriters;
+    mark(layout, waits, missing, readers, number)
+}
+
+/// Marks the reader of a number, if it waits, which it answers. What it writes can't come then.
+#[inline(always)]
+fn mark(
+    layout: &Layout,
+    waits: &mut [bool],
+    missing: &mut [u64],
+    readers: &[u32],
+    number: usize,
+) -> bool
+    requires layout { IsLayout layout.now }
+    requires readers { All (λ a. a < frame_count layout.now) readers.now }
+    requires exists { number < length readers.now }
+    requires waiting { AreWaiting layout.now readers.now waits.old }
+    requires missing { AreMissing layout.now waits.old missing.old }
+    ensures waiting { AreWaiting layout.now readers.now waits.new }
+    ensures missing { AreMissing layout.now waits.new missing.new }
+    ensures marks { waits.new ≡ (if result then slice_set waits.old (slice_index readers.now number) true else waits.old) }
+{
+    let activation = readers[number] as usize;
+    let spans = layout.spans_of(activation);
+    if spans_wait(layout, waits, missing, spans) {
+        waits[activation] = true;
+        lower(missing, spans);
+        return true;
     }
-    look
+    false
 }
 
 /// Whether an activation has a mark.

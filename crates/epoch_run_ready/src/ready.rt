@@ -1,12 +1,13 @@
-ghost use Rattle.std.specs.Prelude.{◌≡◌, ◌<◌, ℕ, All, List, Option, IfOk, filter, length, not, slice_index_or, false};
+ghost use Rattle.std.specs.Prelude.{◌≡◌, ◌<◌, ℕ, All, List, Option, IfOk, length};
 ghost use Rattle.flow_core_laws.specs.declared.task_end.TaskEnd.{TaskEnd};
 ghost use Rattle.flow_core_laws.specs.declared.activation.Activation.{Activation};
 ghost use Rattle.flow_core_epochs.specs.Epoch.{LeaveOutWaiting, open_in};
 ghost use Rattle.stream_match_layouts.specs.Layout.{IsLayout, IsLayoutOf};
 ghost use Rattle.stream_match_layouts.specs.Spans.{frame_count};
-ghost use Rattle.epoch_run_ready.specs.Waiting.{AreWaiting};
+ghost use Rattle.epoch_run_ready.specs.Waiting.{AreUnmarked};
 
-use crate::marking::{is_marked, mark_ahead, mark_back};
+use crate::marking::{mark_back, others};
+use crate::missing::behind_all;
 use os_io::{List, Memory};
 use std::alloc::Global;
 use stream_match_layouts::Layout;
@@ -20,36 +21,35 @@ pub fn ready_frames(alloc: Global, layout: &Layout, readers: &[u32]) -> Result<L
     ensures { IfOk result (λ frames. (activations : List Activation) (input : List ℕ) (ends : List (Option TaskEnd)) → IsLayoutOf layout.now activations
         → length input ≡ layout.now.input_len → readers.now ≡ open_in ends (frame_count layout.now) → LeaveOutWaiting activations input ends frames) }
 {
-    let waits = waiting(alloc, layout, readers)?;
-    let frames = others(alloc, readers, waits.as_slice())?;
+    let frames = chosen(alloc, layout, readers)?;
     Ok(frames)
 }
 
-/// A mark for each activation: which of the readers wait.
-fn waiting(alloc: Global, layout: &Layout, readers: &[u32]) -> Result<Vec<bool>, Memory>
+/// Those of the readers that don't wait, by marks of those that do: all of them, with no second look, where none does.
+fn chosen(alloc: Global, layout: &Layout, readers: &[u32]) -> Result<List<u32>, Memory>
     requires layout { IsLayout layout.now }
     requires readers { All (λ a. a < frame_count layout.now) readers.now }
-    ensures { IfOk result (λ waits. AreWaiting layout.now readers.now waits.items) }
+    ensures { IfOk result (λ frames. AreUnmarked layout.now readers.now frames) }
 {
     let mut waits = Vec::new(alloc);
     waits.resize(layout.frames(), false)?;
-    let look = mark_back(layout, waits.as_mut_slice(), readers);
-    if !look.asks_writers() {
-        return Ok(waits);
+    let mut missing = behind_all(alloc, layout)?;
+    let found = mark_back(
+        layout,
+        waits.as_mut_slice(),
+        missing.as_mut_slice(),
+        readers,
+    );
+    if !found {
+        let frames = List::from_slice(alloc, readers)?;
+        return Ok(frames);
     }
-    mark_ahead(layout, waits.as_mut_slice(), readers);
-    Ok(waits)
-}
-
-/// Those that have no mark.
-fn others(alloc: Global, readers: &[u32], waits: &[bool]) -> Result<List<u32>, Memory>
-    ensures { IfOk result (λ frames. frames ≡ filter (λ a. not (slice_index_or waits.now a false)) readers.now) }
-{
-    let mut frames = List::new(alloc);
-    for activation in readers {
-        if !is_marked(waits, *activation) {
-            frames.push(*activation)?;
-        }
-    }
+    let frames = others(
+        alloc,
+        layout,
+        waits.as_mut_slice(),
+        missing.as_mut_slice(),
+        readers,
+    )?;
     Ok(frames)
 }

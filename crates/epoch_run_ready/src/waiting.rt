@@ -2,42 +2,65 @@ ghost use Rattle.std.specs.Prelude.{◌≡◌, ◌≢◌, ◌+◌, ◌^◌, ◌<
 ghost use Rattle.stream_match_layouts.specs.Layout.{IsLayout};
 ghost use Rattle.stream_match_layouts.specs.Writers.{HasWriters, writers_on};
 ghost use Rattle.stream_match_layouts.specs.declared.span.Span.{Span};
-ghost use Rattle.epoch_run_ready.specs.Waiting.{HasWaitingSpan, SpanWaits, written_until};
+ghost use Rattle.epoch_run_ready.specs.Waiting.{AreMissing, HasWaitingSpan, SpanWaits, written_until};
 
-use crate::look::Look;
 use crate::marking::is_marked;
 use stream_match_layouts::{Layout, Span};
 
 /// Whether one of the spans of an activation reads an element that can't come.
-pub(crate) fn spans_wait(layout: &Layout, waits: &[bool], spans: &[Span], look: Look) -> bool
+pub(crate) fn spans_wait(layout: &Layout, waits: &[bool], missing: &[u64], spans: &[Span]) -> bool
     requires layout { IsLayout layout.now }
     requires exist { All (λ (s : Span). s.stream < length layout.now.writers) spans.now }
     requires small { All (λ (s : Span). s.first < 2 ^ 62) spans.now }
+    requires missing { AreMissing layout.now waits.now missing.now }
     ensures { result ≡ true → HasWaitingSpan layout.now waits.now spans.now }
 {
     for span in spans {
-        if span_waits(layout, waits, *span, look) {
+        if span_waits(layout, waits, missing, *span) {
             return true;
         }
     }
     false
 }
 
-/// Whether a span reads an element that can't come: one behind all that is written, or one that comes from an activation
-/// which is stuck.
-fn span_waits(layout: &Layout, waits: &[bool], span: Span, look: Look) -> bool
+/// Whether a span reads an element that can't come. Where it has the first position of its stream that is known to, that tells, and
+/// where it ends before that, too.
+fn span_waits(layout: &Layout, waits: &[bool], missing: &[u64], span: Span) -> bool
     requires layout { IsLayout layout.now }
     requires exists { span.stream < length layout.now.writers }
     requires small { span.first < 2 ^ 62 }
+    requires missing { AreMissing layout.now waits.now missing.now }
     ensures { result ≡ true → SpanWaits layout.now waits.now span }
 {
-    if span.write || span.count == 0 {
+    if span.write {
+        return false;
+    }
+    let first = missing[span.stream as usize];
+    if span.first + u64::from(span.count) <= first {
+        return false;
+    }
+    if span.first <= first {
+        return true;
+    }
+    waits_past(layout, waits, span)
+}
+
+/// Whether a span reads an element that can't come, by all that it reads: one behind all that is written, or one that comes from an
+/// activation which is stuck.
+fn waits_past(layout: &Layout, waits: &[bool], span: Span) -> bool
+    requires layout { IsLayout layout.now }
+    requires exists { span.stream < length layout.now.writers }
+    requires small { span.first < 2 ^ 62 }
+    requires reads { span.write ≡ false }
+    ensures { result ≡ true → SpanWaits layout.now waits.now span }
+{
+    if span.count == 0 {
         return false;
     }
     if span.first + u64::from(span.count) > written_until(layout, span.stream) {
         return true;
     }
-    if span.stream == 0 || !look.asks_writers() {
+    if span.stream == 0 {
         return false;
     }
     waits_for_writer(layout, waits, span)

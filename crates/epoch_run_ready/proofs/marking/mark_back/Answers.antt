@@ -1,5 +1,5 @@
 use Rattle.std.proofs.Common.{arith}
 use Rattle.epoch_run_ready.proofs.marking.mark_back.Goals as goal
 
-pub mark-look-requires-clause-exists : goal.mark-look-requires-clause-exists
-mark-look-requires-clause-exists c = omega (arith, c.marking-test.true, c.marking.invariant.within)
+pub mark-requires-clause-exists : goal.mark-requires-clause-exists
+mark-requires-clause-exists c = omega (arith, c.marking-test.true, c.marking.invariant.within)

@@ -1,11 +1,12 @@
 use Rattle.std.proofs.Common.{◌≤◌, length}
-use Rattle.epoch_run_ready.specs.Waiting.{AreWaiting}
+use Rattle.epoch_run_ready.specs.Waiting.{AreMissing, AreWaiting}
 use Rattle.epoch_run_ready.proofs.marking.mark_back.Given as goal
 
 abbrev pub invariant-marking : goal.invariant-marking
 invariant-marking l = record {
   within : l.left ≤ length l.readers;
   waiting : AreWaiting l.layout l.readers l.waits;
+  missing : AreMissing l.layout l.waits l.missing;
 }
 
 abbrev pub decreases-marking : goal.decreases-marking
