@@ -7,7 +7,7 @@ ghost use Rattle.stream_match.specs.declared.stretch.Stretch.{Stretch};
 ghost use Rattle.stream_match_layouts.specs.Layout.{IsLayout, IsLayoutOf};
 ghost use Rattle.stream_match.specs.Walking.{IsStretch};
 ghost use Rattle.stream_match_layouts.specs.Spans.{frame_count};
-ghost use Rattle.stream_match.specs.EpochPlan.{AreFrames, GoesOn, GoesOnFor, IsEpochPlanOf};
+ghost use Rattle.stream_match.specs.EpochPlan.{AreFrames, WrittenOutside, GoesOn, GoesOnFor, IsEpochPlanOf};
 ghost use Rattle.stream_match.specs.Kept.{kept_of, place_of, IsKeptOutside};
 ghost use Rattle.stream_match.specs.EpochCode.{Ascend, AreSorted, pieces_for, filled_cells, stretch_places};
 
@@ -106,6 +106,8 @@ fn weave(
     requires cursors { length cursors.now ≡ length layout.now.writers }
     requires small { All (λ cursor. cursor < 2 ^ 62) cursors.now }
     requires kept { AreSorted kept.now }
+    requires outside { (activations : List Activation) × IsLayoutOf layout.now activations
+        × WrittenOutside activations frames.now (map kept_of kept.now) }
     ensures frames { IfOk result (λ epoch. epoch.frames ≡ frames.now) }
     ensures plan { IfOk result (λ epoch. IsEpochPlanOf layout.now input.now frames.now (map kept_of kept.now) cursors.now epoch.plan
         (map place_of epoch.places)) }
