@@ -132,7 +132,7 @@ overflow_cast-sink c =
     let frames = c.args.frames.now in
     let sink = c.requires.left.0 in
     let rows = rows_of layout frames sink c.args.read.now c.args.left.now c.as_slice-reads.result.now c.as_slice-leaves.result.now c.requires.read c.requires.left.2 c.as_slice-reads.ensures c.as_slice-leaves.ensures in
-    omega (arith, ap length (gathered_both c.args.layout.now c.args.frames.now c.requires.left.0 c.args.left.now c.as_slice-reads.result.now c.as_slice-leaves.result.now c.in_ok-pieces.pieces c.as_slice.result.now c.append.new.pieces c.requires.left.2 c.as_slice-leaves.ensures c.in_ok-pieces.ensures c.as_slice.ensures c.in_ok-append.ensures), c.len.ensures, pieces_are_few layout is frames c.requires.frames sink c.requires.left.1 c.as_slice-reads.result.now c.as_slice-leaves.result.now c.args.read.now.next c.args.left.now.next rows c.append.new.pieces (gathered_both c.args.layout.now c.args.frames.now c.requires.left.0 c.args.left.now c.as_slice-reads.result.now c.as_slice-leaves.result.now c.in_ok-pieces.pieces c.as_slice.result.now c.append.new.pieces c.requires.left.2 c.as_slice-leaves.ensures c.in_ok-pieces.ensures c.as_slice.ensures c.in_ok-append.ensures))
+    omega (arith, ap length (gathered_both c.args.layout.now c.args.frames.now c.requires.left.0 c.args.left.now c.as_slice-reads.result.now c.as_slice-leaves.result.now c.in_ok-pieces.pieces c.as_slice.result.now c.append.new.pieces c.requires.left.2 c.as_slice-leaves.ensures c.in_ok-pieces.ensures c.as_slice.ensures c.in_ok-append.ensures), c.len-2.ensures, pieces_are_few layout is frames c.requires.frames sink c.requires.left.1 c.as_slice-reads.result.now c.as_slice-leaves.result.now c.args.read.now.next c.args.left.now.next rows c.append.new.pieces (gathered_both c.args.layout.now c.args.frames.now c.requires.left.0 c.args.left.now c.as_slice-reads.result.now c.as_slice-leaves.result.now c.in_ok-pieces.pieces c.as_slice.result.now c.append.new.pieces c.requires.left.2 c.as_slice-leaves.ensures c.in_ok-pieces.ensures c.as_slice.ensures c.in_ok-append.ensures))
 
 pub returns : goal.returns
 returns c = λ sink can is_left.
@@ -149,7 +149,7 @@ returns c = λ sink can is_left.
     let next = c.args.read.now.next in
     let end = c.args.left.now.next in
     let nothing = subst (All (IsEmpty input kept)) (sym c.as_slice-leaves.ensures) c.requires.nothing in
-    plan_made layout is frames c.requires.frames sink can c.as_slice-reads.result.now c.as_slice-leaves.result.now c.args.read.now.next c.args.left.now.next rows c.args.input.now c.args.kept.now c.in_ok-filled.filled.cells waits c.append.new.pieces c.in_ok-plans.plans c.in_ok-placed.placed c.in_ok-numbers.numbers (c.args.left.now.next - c.args.read.now.next) (get_or waits (length frames) 0) c.len.result
+    plan_made layout is frames c.requires.frames sink can c.as_slice-reads.result.now c.as_slice-leaves.result.now c.args.read.now.next c.args.left.now.next rows c.args.input.now c.args.kept.now c.in_ok-filled.filled.cells waits c.append.new.pieces c.in_ok-plans.plans c.in_ok-placed.placed c.in_ok-numbers.numbers (c.args.left.now.next - c.args.read.now.next) (get_or waits (length frames) 0) c.len-2.result
     (c.in_ok-filled.ensures.cells ∙ ap (λ xs. flat_map (filled_cells input kept) reads ++ xs) (sym (cells_left layout is frames c.requires.frames sink can reads leaves next end rows input kept nothing)))
     (λ f lt. ap (λ xs. get_or xs f 0) waits_are ∙ c.in_ok-filled.ensures.waits f lt ∙ ap (λ n. sum_by (empty_in input kept f) reads + n) (sym (waits_left layout is frames c.requires.frames sink can reads leaves next end rows input kept nothing f)))
     (gathered_both c.args.layout.now c.args.frames.now sink c.args.left.now c.as_slice-reads.result.now c.as_slice-leaves.result.now c.in_ok-pieces.pieces c.as_slice.result.now c.append.new.pieces is_left c.as_slice-leaves.ensures c.in_ok-pieces.ensures c.as_slice.ensures c.in_ok-append.ensures)
@@ -158,4 +158,4 @@ returns c = λ sink can is_left.
     c.in_ok-numbers.ensures
     refl
     refl
-    c.len.ensures
+    c.len-2.ensures
