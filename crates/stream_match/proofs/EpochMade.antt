@@ -1,6 +1,6 @@
 -- What is made of an epoch's stretches is its plan.
-use Rattle.std.proofs.Common.{◌≡◌, ℕ, ◌+◌, ◌-◌, ◌^◌, ◌<◌, ◌≤◌, List, [], ◌++◌, Option, is_none, count_by, length, map, get_or, sym, ap, ◌∙◌, subst, arith}
-use Rattle.std.specs.Prelude.{All, nat_lt, sum_by}
+use Rattle.std.proofs.Common.{◌≡◌, ℕ, ◌+◌, ◌-◌, ◌^◌, ◌<◌, ◌≤◌, List, [], ◌++◌, Option, None, cond, is_none, count_by, length, map, get_or, refl, sym, ap, ◌∙◌, subst, arith}
+use Rattle.std.specs.Prelude.{All, ◌==◌, replicate, nat_lt, sum_by}
 use Rattle.std.specs.List.{flat_map, range_with_len}
 use Rattle.flow_core_laws.specs.declared.elem.Elem.{Elem}
 use Rattle.flow_core_laws.specs.declared.plan.FramePlan.{FramePlan}
@@ -16,7 +16,8 @@ use Rattle.stream_match.specs.Walking.{IsStretch}
 use Rattle.stream_match.specs.Weave.{Reach, Weave, total, cells_of_first, frame_cells, woven_pieces, IsWoven}
 use Rattle.stream_match.specs.EpochPlan.{AreFrames, epoch_opening, reaches_over, weave_over}
 use Rattle.stream_match.specs.Kept.{kept_of}
-use Rattle.stream_match.specs.EpochCode.{pieces_for, renumbered, empty_in, filled_cells, stretches_from, with_positions, reads_before, read_part, epoch_frame, IsRead, IsLeft, CanLeave}
+use Rattle.stream_match.specs.EpochCode.{IsEmpty, pieces_for, renumbered, empty_in, filled_cells, stretches_from, with_positions, reads_before, read_part, epoch_frame, IsRead, IsLeft, CanLeave}
+use Rattle.std.proofs.lemmas.List.{length-append, length-replicate}
 use Rattle.std.proofs.lemmas.List.Elements.{All-filter}
 use Rattle.flow_core_laws.specs.Place.{places_from}
 use Rattle.flow_core_laws.proofs.Stretches.{flat_map-none}
@@ -27,6 +28,7 @@ use Rattle.stream_match.proofs.Gathering.{all_by_frame}
 use Rattle.stream_match.proofs.Rows.{all_pieces_are, all_cells_are, first-reads, left_total}
 use Rattle.stream_match.proofs.EpochRows.{reads_are_stretches, sink_are_stretches, pieces_few, cells_length, from_frames, frames_are_woven, reads_into, stretches_into}
 use Rattle.stream_match.proofs.Waits.{frame_waits, sink_waits}
+use Rattle.stream_match.proofs.Empty.{positions, positions_are, empty_cells, empty_waits}
 
 -- what is read and what leaves
 pub record AreRows (layout : Layout) (frames : List ℕ) (sink : List Reach) (reads leaves : List Stretch) (next end : ℕ) : Type 0 where
@@ -77,9 +79,6 @@ module _ (layout : Layout) (is : IsLayout layout) (frames : List ℕ) (are : Are
   pub reads_into_frames : All (λ (s : Stretch). s.to < length frames + 1) reads
   reads_into_frames = subst (All (λ (s : Stretch). s.to < length frames + 1)) (sym rows.reads_are) (All-filter (λ (s : Stretch). nat_lt 0 s.count) (λ (s : Stretch). s.to < length frames + 1) _ (λ k d lt. let into = reads_into layout frames k d lt in omega arith))
 
-  pub leaves_into_sink : All (λ (s : Stretch). s.to < length frames + 1) leaves
-  leaves_into_sink = subst (All (λ (s : Stretch). s.to < length frames + 1)) (sym rows.leaves_are) (All-filter (λ (s : Stretch). nat_lt 0 s.count) (λ (s : Stretch). s.to < length frames + 1) _ (λ k d lt. let into = stretches_into (length frames) next sink k d lt in omega arith))
-
   pub reads_end : All (λ (s : Stretch). s.first + s.count < 2 ^ 64) reads
   reads_end k d lt = let e = (reads_stretches k d lt).ends in omega arith
 
@@ -99,6 +98,26 @@ module _ (layout : Layout) (is : IsLayout layout) (frames : List ℕ) (are : Are
 
     pub cells_end : (cells : List (Option Elem)) → cells ≡ flat_map (filled_cells input kept) reads ++ flat_map (filled_cells input kept) leaves → length cells ≡ end
     cells_end cells made = let n = rows.next_is in let e = rows.end_is in omega (arith, ap length (cells_made cells made), cells_length layout is frames are input kept sink)
+
+    module _ (nothing : All (IsEmpty input kept) leaves) where
+      left_is : positions leaves ≡ end - next
+      left_is = let e = rows.end_is in omega (arith, ap positions rows.leaves_are, positions_are (length frames) next sink)
+
+      -- the cells of what leaves hold nothing, and all wait
+      pub cells_left : flat_map (filled_cells input kept) leaves ≡ replicate (end - next) None
+      cells_left = empty_cells input kept leaves nothing ∙ ap (λ n. replicate n None) left_is
+
+      pub waits_left : (f : ℕ) → sum_by (empty_in input kept f) leaves ≡ cond {A = ℕ} (f == length frames) (end - next) 0
+      waits_left f =
+          let into : All (λ (s : Stretch). s.to ≡ length frames) leaves = subst (All (λ (s : Stretch). s.to ≡ length frames)) (sym rows.leaves_are) (All-filter (λ (s : Stretch). nat_lt 0 s.count) (λ (s : Stretch). s.to ≡ length frames) (stretches_from (length frames) next sink) (stretches_into (length frames) next sink)) in
+          empty_waits input kept f (length frames) leaves nothing into ∙ ap (λ n. cond {A = ℕ} (f == length frames) n 0) left_is
+
+      pub reads_fit : length (flat_map (filled_cells input kept) reads) + (end - next) ≡ end
+      reads_fit =
+          let both = cells_end (flat_map (filled_cells input kept) reads ++ flat_map (filled_cells input kept) leaves) refl in
+          let parts = length-append (flat_map (filled_cells input kept) reads) (flat_map (filled_cells input kept) leaves) in
+          let behind = ap length cells_left ∙ length-replicate {A = Option Elem} (end - next) None in
+          omega (arith, both, parts, behind)
 
     pub pieces_from_frames : (pieces : List Piece) → pieces ≡ flat_map (pieces_for layout frames) reads ++ flat_map (pieces_for layout frames) leaves → All (λ (p : Piece). p.from < length frames) pieces
     pieces_from_frames pieces made = subst (All (λ (p : Piece). p.from < length frames)) (sym (pieces_made pieces made)) (from_frames layout input frames kept sink)

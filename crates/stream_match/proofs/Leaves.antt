@@ -1,9 +1,9 @@
 -- What leaves a frame: each of its write spans makes one piece.
-use Rattle.std.proofs.Common.{◌≡◌, ℕ, ◌+◌, ◌-◌, ◌^◌, ◌<◌, ◌≤◌, Bool, true, false, cond, List, [], ◌∷◌, ◌++◌, Some, length, take, map, get_or, refl, sym, ap, ◌∙◌, subst, inl, inr, arith}
+use Rattle.std.proofs.Common.{◌≡◌, ℕ, ◌+◌, ◌-◌, ◌^◌, ◌<◌, Bool, true, false, cond, List, [], ◌∷◌, ◌++◌, Some, length, take, map, get_or, refl, sym, ap, ◌∙◌, subst, arith}
 use Rattle.std.specs.Prelude.{not, ◌&&◌, ◌==◌, nat_lt}
 use Rattle.std.specs.Option.{option_map_or}
 use Rattle.std.specs.List.{flat_map, range_with_len}
-use Rattle.std.proofs.lemmas.Bool.{cases_lt, lt-ltb, le-ltb, ltb-true}
+use Rattle.std.proofs.lemmas.Bool.{lt-ltb, le-ltb, ltb-true}
 use Rattle.std.proofs.lemmas.List.{append-nil, append_assoc, take_more}
 use Rattle.std.proofs.lemmas.List.Sums.{sum_by-cons}
 use Rattle.std.proofs.lemmas.Option.{slice_get_within, get_or_from_slice_get}
@@ -17,7 +17,7 @@ use Rattle.stream_match_layouts.specs.declared.span.Span.{Span}
 use Rattle.stream_match_layouts.specs.declared.layout.Layout.{Layout}
 use Rattle.stream_match_layouts.specs.Layout.{span_of, IsLayout}
 use Rattle.stream_match_layouts.specs.Spans.{frame_count, write_count, spans_of}
-use Rattle.stream_match_layouts.specs.Writers.{span_at, writers_on, writer_at, end_of, HasWriters, FirstBehind}
+use Rattle.stream_match_layouts.specs.Writers.{span_at, writers_on, writer_at, HasWriters}
 use Rattle.stream_match_layouts.proofs.Windows.{no_window}
 use Rattle.stream_match_layouts.proofs.Writers.{window_number, span_at-window, stands, has_writers}
 use Rattle.stream_match_layouts.proofs.Sums.{frames_are}
@@ -30,7 +30,7 @@ use Rattle.stream_match.specs.EpochPlan.{AreFrames, staying, leaving_reach}
 use Rattle.stream_match.specs.EpochCode.{pieces_for, renumbered, stretches_from, with_positions, left_piece, left_pieces}
 use Rattle.stream_match.proofs.Counting.{same_test}
 use Rattle.stream_match.proofs.LookUp.{found_number}
-use Rattle.stream_match.proofs.Walks.{Found, overlap_at, walked_all, walked_more, walked_none, ended}
+use Rattle.stream_match.proofs.Walks.{Found, overlap_at, one_piece}
 use Rattle.stream_match.proofs.EpochWeave.{span_stream}
 use Rattle.stream_match.proofs.Behind.{frame_few}
 
@@ -63,21 +63,6 @@ module _ (layout : Layout) (is : IsLayout layout) where
         of_frame = sym (ap (λ (t : Span). t.frame) w_is) ∙ sym (ap (λ (v : Window). v.activation) k_is);
       }
 
-  -- the first span that reaches past a position in it is itself
-  first_is : (a : ℕ) (s : Span) (w : IsWriter layout a s) (position : ℕ) → HasWriters layout s.stream → s.first ≤ position → position < s.first + s.count → FirstBehind layout s.stream position w.place
-  first_is a s w position has low high =
-      let within = w.within in
-      let first = ap (λ (t : Span). t.first) w.is in
-      let count = ap (λ (t : Span). t.count) w.is in
-      record {
-        within = omega arith;
-        before = λ i lt. let o = has.in_order i w.place lt within in omega arith;
-        behind = λ i ge lt. elim (cases_lt w.place i) [
-          | inl l ↦ (let o = has.in_order w.place i l lt in let n = has.not_empty i lt in omega arith)
-          | inr g ↦ (let e : i ≡ w.place = omega arith in let f = ap (λ k. end_of (writer_at layout s.stream k)) e in omega arith)
-        ];
-      }
-
   -- what a span writes behind those of its positions that stay is one piece
   one_into : (a : ℕ) (s : Span) (to stay at : ℕ) → IsWriter layout a s → HasWriters layout s.stream → stay < s.count
       → pieces_into layout (record { to = to; stream = s.stream; first = s.first + stay; count = s.count - stay; at = at }) ≡ piece_between (record { to = to; stream = s.stream; first = s.first + stay; count = s.count - stay; at = at }) s ∷ []
@@ -85,7 +70,6 @@ module _ (layout : Layout) (is : IsLayout layout) where
       let stretch : Stretch = record { to = to; stream = s.stream; first = s.first + stay; count = s.count - stay; at = at } in
       let p : Piece = piece_between stretch s in
       let within = w.within in
-      let behind = first_is a s w (s.first + stay) has (omega arith) (omega arith) in
       let overlaps : overlap_first stretch s < overlap_end stretch s = omega arith in
       let one : overlap_at layout stretch w.place ≡ p ∷ [] = ap (overlap stretch) w.is ∙ ap (λ b. cond b (piece_between stretch s ∷ []) []) (lt-ltb (overlap_first stretch s) (overlap_end stretch s) overlaps) in
       let found : Found layout stretch w.place p = record {
@@ -94,9 +78,7 @@ module _ (layout : Layout) (is : IsLayout layout) where
         is = ap (piece_between stretch) (sym w.is);
         one = one;
       } in
-      sym (walked_all layout stretch w.place (w.place + 1) has behind (omega arith) (omega arith) (ended layout stretch w.place p has found (omega arith)))
-      ∙ walked_more layout stretch w.place w.place p (omega arith) one
-      ∙ ap (λ xs. xs ++ p ∷ []) (walked_none layout stretch w.place)
+      one_piece layout stretch w.place p has found (omega arith)
 
   module _ (frames : List ℕ) (are : AreFrames layout frames) (n : ℕ) (n_lt : n < length frames) where
     one_for : (s : Span) (to stay at : ℕ) → Has (spans_of layout (get_or frames n 0)) s → s.write ≡ true → stay < s.count

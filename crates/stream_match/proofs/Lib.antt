@@ -15,6 +15,7 @@ pub mod Gathering
 pub mod Opening
 pub mod Behind
 pub mod Leaves
+pub mod Empty
 pub mod Rows
 pub mod Waits
 pub mod EpochRows

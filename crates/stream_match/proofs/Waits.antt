@@ -1,9 +1,9 @@
 -- How many cells of a frame are empty, by the stretches that go into it.
 use Rattle.std.proofs.Common.{◌≡◌, ℕ, zero, suc, ◌+◌, ◌<◌, ◌≤◌, Bool, true, false, cond, List, [], ◌∷◌, ◌++◌, is_none, count_by, length, take, map, get_or, refl, sym, ap, ◌∙◌, inl, inr, arith, zero-add}
-use Rattle.std.specs.Prelude.{sum_by, nat_lt, ◌==◌, ◌^◌}
+use Rattle.std.specs.Prelude.{sum_by, nat_lt, ◌==◌}
 use Rattle.std.specs.List.{flat_map, range_with_len}
 use Rattle.std.proofs.lemmas.Bool.{cases_lt, ltb-false}
-use Rattle.std.proofs.lemmas.List.{get_or_past, length-append}
+use Rattle.std.proofs.lemmas.List.{length-append}
 use Rattle.std.proofs.lemmas.List.Sums.{sum_by-append, sum_by-cons, sum_by_more_le, count_by-le-length}
 use Rattle.flow_core_laws.proofs.Stretches.{flat_map-range_more}
 use Rattle.stream_match.specs.declared.kept.Kept.{Kept}
@@ -26,7 +26,7 @@ module _ (input : List ℕ) (kept : List Kept) where
   pub of_own : (f : ℕ) (s : Stretch) → s.to ≡ f → empty_in input kept f s ≡ count_by is_none (filled_cells input kept s)
   of_own f s same = ap (λ b. cond {A = ℕ} b (count_by is_none (filled_cells input kept s)) 0) (same_test s.to f same)
 
-  of_other : (f : ℕ) (s : Stretch) → (s.to ≡ f → ⊥) → empty_in input kept f s ≡ 0
+  pub of_other : (f : ℕ) (s : Stretch) → (s.to ≡ f → ⊥) → empty_in input kept f s ≡ 0
   of_other f s other = ap (λ b. cond {A = ℕ} b (count_by is_none (filled_cells input kept s)) 0) (other_test s.to f other)
 
   of_any : (f : ℕ) (s : Stretch) → empty_in input kept f s ≤ length (filled_cells input kept s)
@@ -36,7 +36,7 @@ module _ (input : List ℕ) (kept : List Kept) where
       at true le = le
       at false le = omega arith
 
-  within : (f : ℕ) (xs : List Stretch) → sum_by (empty_in input kept f) xs ≤ length (flat_map (filled_cells input kept) xs)
+  pub within : (f : ℕ) (xs : List Stretch) → sum_by (empty_in input kept f) xs ≤ length (flat_map (filled_cells input kept) xs)
   within f [] = omega arith
   within f (s ∷ xs) =
       let a : length (flat_map (filled_cells input kept) (s ∷ xs)) ≡ length (filled_cells input kept s) + length (flat_map (filled_cells input kept) xs) = length-append (filled_cells input kept s) (flat_map (filled_cells input kept) xs) in
@@ -45,18 +45,6 @@ module _ (input : List ℕ) (kept : List Kept) where
   -- no count passes the number of cells
   pub counts_within : (f k : ℕ) (xs : List Stretch) (d : Stretch) → k < length xs → sum_by (empty_in input kept f) (take k xs) + empty_in input kept f (get_or xs k d) ≤ length (flat_map (filled_cells input kept) xs)
   counts_within f k xs d lt = omega (arith, sum_by_more_le (empty_in input kept f) xs k d lt, within f xs)
-
-  -- behind what is read there is room for what leaves
-  pub room_left : (reads leaves : List Stretch) (before after : List ℕ) → ((f : ℕ) → f < length before → get_or before f 0 ≡ 0) → length after ≡ length before
-      → ((f : ℕ) → f < length before → get_or after f 0 ≡ get_or before f 0 + sum_by (empty_in input kept f) reads)
-      → length (flat_map (filled_cells input kept) reads ++ flat_map (filled_cells input kept) leaves) < 2 ^ 32
-      → (f : ℕ) → get_or after f 0 + length (flat_map (filled_cells input kept) leaves) < 2 ^ 32
-  room_left reads leaves before after zeros same counted few f =
-      let whole = length-append (flat_map (filled_cells input kept) reads) (flat_map (filled_cells input kept) leaves) in
-      elim (cases_lt f (length before)) [
-        | inl lt ↦ omega (arith, counted f lt, zeros f lt, within f reads, whole, few)
-        | inr ge ↦ omega (arith, get_or_past after f 0 (omega (arith, same, ge)), whole, few)
-      ]
 
   -- ---- stretches one behind another
 

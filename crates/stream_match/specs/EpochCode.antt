@@ -1,6 +1,6 @@
 -- What restates private functions of the plan of an epoch.
 use Rattle.std.specs.Prelude.{◌≡◌, ℕ, ◌+◌, ◌<◌, ◌≤◌, ◌⊎◌, ◌==◌, if◌then◌else◌, List, [], ◌∷◌, ◌++◌, Option, Some, None, slice_get}
-use Rattle.std.specs.Prelude.{slice_index, length, map, filter, nat_lt, sum_by, take, count_by, is_none, ◌^◌, All}
+use Rattle.std.specs.Prelude.{slice_index, length, map, filter, nat_lt, sum_by, take, count_by, is_none, replicate, ◌^◌, All}
 use Rattle.std.specs.Option.{option_map_or}
 use Rattle.std.specs.List.{flat_map, range_with_len}
 use Rattle.flow_core_laws.specs.declared.elem.Elem.{Elem}
@@ -60,6 +60,10 @@ pieces_for layout frames stretch = flat_map (renumbered frames) (pieces_into lay
 -- the cells of a stretch
 abbrev pub filled_cells : List ℕ → List Kept → Stretch → List (Option Elem)
 filled_cells input kept stretch = map (epoch_opening input (map kept_of kept) stretch.stream) (range_with_len stretch.first stretch.count)
+
+-- no cell of a stretch holds anything
+abbrev pub IsEmpty : List ℕ → List Kept → Stretch → Type 0
+IsEmpty input kept stretch = filled_cells input kept stretch ≡ replicate stretch.count None
 
 -- how many cells of a stretch are empty, where it goes into the frame of a number
 abbrev pub empty_in : List ℕ → List Kept → ℕ → Stretch → ℕ

@@ -6,7 +6,7 @@ ghost use Rattle.flow_core_epochs.specs.Epoch.{IsOutside, StandsForEpoch};
 ghost use Rattle.stream_match.specs.declared.stretch.Stretch.{Stretch};
 ghost use Rattle.stream_match_layouts.specs.Layout.{IsLayout, IsLayoutOf};
 ghost use Rattle.stream_match_layouts.specs.Spans.{frame_count};
-ghost use Rattle.stream_match.specs.EpochPlan.{AreFrames, GoesOn, GoesOnFor, IsEpochPlanOf};
+ghost use Rattle.stream_match.specs.EpochPlan.{AreFrames, WrittenOutside, GoesOn, GoesOnFor, IsEpochPlanOf};
 ghost use Rattle.stream_match.specs.Kept.{kept_of, IsKeptOutside};
 ghost use Rattle.stream_match.specs.EpochCode.{AreSorted};
 ghost use Rattle.stream_match.specs.Stretch.{stretch_places};
@@ -107,6 +107,8 @@ fn weave(
     requires cursors { length cursors.now ≡ length layout.now.writers }
     requires small { All (λ cursor. cursor < 2 ^ 62) cursors.now }
     requires kept { AreSorted kept.now }
+    requires outside { (activations : List Activation) × IsLayoutOf layout.now activations
+        × WrittenOutside activations frames.now (map kept_of kept.now) }
     ensures frames { IfOk result (λ epoch. epoch.frames ≡ frames.now) }
     ensures small { IfOk result (λ epoch. All (λ (s : Stretch). s.first + s.count < 2 ^ 64) epoch.leaves) }
     ensures plan { IfOk result (λ epoch. IsEpochPlanOf layout.now input.now frames.now (map kept_of kept.now) cursors.now epoch.plan

@@ -115,7 +115,7 @@ fn element_of(byte: u8) -> Elem
 }
 
 /// Adds cells that hold nothing.
-fn fill_empty(cells: &mut List<Option<Elem>>, count: u32) -> Result<(), Memory>
+pub(crate) fn fill_empty(cells: &mut List<Option<Elem>>, count: u32) -> Result<(), Memory>
     ensures { OnOk result (cells.new ≡ cells.old ++ replicate count None) }
 {
     for _ in 0..count {

@@ -40,7 +40,7 @@ impl Nearby {
     }
 
     /// The place behind the write span of a stream that was found last.
-    fn place(&self, stream: u32) -> usize {
+    pub(crate) fn place(&self, stream: u32) -> usize {
         match self.places.get(stream as usize) {
             Some(place) => *place,
             None => 0,

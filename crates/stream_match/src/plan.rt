@@ -70,7 +70,7 @@ fn output(alloc: Global, layout: &Layout, frames: &[u32], next: u32) -> Result<L
     };
     left.add(layout.frames() as u32, 1, 0, count as u32)?;
     let stretches = left.stretches;
-    let pieces = gathered(alloc, layout, frames, stretches.as_slice())?;
+    let pieces = gathered(alloc, layout, frames, stretches.as_slice(), layout.frames())?;
     Ok(Left {
         stretches,
         pieces,

@@ -17,6 +17,15 @@ weave-requires-clause-small c =
     let layout = c.args.layout.now in
     cursors_small layout c.requires.layout c.args.readers.now c.as_slice.result.now (c.as_slice.ensures.value ∙ c.in_ok-cursors.ensures c.requires.layout.activations c.requires.layout.is_of)
 
+pub weave-requires-clause-outside : goal.weave-requires-clause-outside
+weave-requires-clause-outside c =
+    let frames = c.args.frames.now in
+    let k = c.requires.kept in (
+      k.activations,
+      k.is_of,
+      subst (λ ks. WrittenOutside k.activations frames (map kept_of ks)) (sym c.as_slice-2.ensures.value) (outside_same k.activations frames c.args.kept.now c.in_ok-kept.kept.items c.in_ok-kept.ensures.permutation k.outside.written_outside),
+    )
+
 pub returns-clause-sound : goal.returns-clause-sound
 returns-clause-sound c =
     let layout = c.args.layout.now in

@@ -1,13 +1,15 @@
-use Rattle.std.proofs.Common.{◌∙◌, ◌+◌, length, ap, refl}
+use Rattle.std.proofs.Common.{◌∙◌, ◌+◌, length, ap, refl, sym, subst}
+use Rattle.std.specs.Prelude.{All}
 use Rattle.std.specs.List.{flat_map}
 use Rattle.stream_match.specs.Weave.{total}
 use Rattle.stream_match.specs.EpochPlan.{leaving_reaches}
-use Rattle.stream_match.specs.EpochCode.{IsRead, IsLeft, CanLeave, stretches_from, with_positions}
+use Rattle.stream_match.specs.EpochCode.{IsEmpty, IsRead, IsLeft, CanLeave, stretches_from, with_positions}
 use Rattle.stream_match.specs.Stretch.{stretch_places}
 use Rattle.stream_match.proofs.Rows.{places_from_stretches}
 use Rattle.stream_match.proofs.EpochRows.{leaving_can}
 use Rattle.stream_match.proofs.EpochMade.{rows_of, leaves_end, no_places}
 use Rattle.stream_match.proofs.Behind.{over_positions}
+use Rattle.stream_match.proofs.Empty.{empty_left}
 use Rattle.stream_match.proofs.epoch.weave.Goals as goal
 
 pub returns-clause-small : goal.returns-clause-small
@@ -36,6 +38,13 @@ weave_rows-requires-clause-left c =
       leaving_can layout c.requires.layout frames c.requires.frames c.args.cursors.now c.requires.cursors c.requires.small,
       record { stretches_are = left.stretches ∙ ap (λ n. with_positions (stretches_from (length frames) n sink)) read.next; pieces_are = left.pieces; next_is = left.next ∙ ap (λ n. n + total sink) read.next },
     )
+
+pub weave_rows-requires-clause-nothing : goal.weave_rows-requires-clause-nothing
+weave_rows-requires-clause-nothing c =
+    let frames = c.args.frames.now in
+    let (activations, is_of, outside) = c.requires.outside in
+    subst (All (IsEmpty c.args.input.now c.args.kept.now)) (sym c.in_ok-left.ensures.stretches)
+    (empty_left c.args.layout.now c.requires.layout activations is_of c.args.input.now frames c.requires.frames c.args.kept.now c.args.cursors.now outside (length frames) c.in_ok-read.read.next)
 
 pub returns-clause-plan : goal.returns-clause-plan
 returns-clause-plan c =

@@ -3,8 +3,10 @@ use Rattle.stream_match.specs.declared.kept.Kept.{Kept}
 use Rattle.stream_match.specs.Weave.{IsWoven}
 use Rattle.stream_match.specs.EpochPlan.{AreFrames, weave_over}
 use Rattle.stream_match.specs.Kept.{kept_of}
-use Rattle.stream_match.specs.Whole.{output_reach}
-use Rattle.stream_match.specs.EpochCode.{IsRead, IsLeft, CanLeave, reads_before}
+use Rattle.std.specs.Prelude.{All}
+use Rattle.stream_match.specs.Whole.{all_frames, output_reach}
+use Rattle.stream_match.proofs.Empty.{empty_output}
+use Rattle.stream_match.specs.EpochCode.{IsEmpty, IsRead, IsLeft, CanLeave, reads_before}
 use Rattle.stream_match.proofs.Whole.{are, can_leave, whole_sound, whole_stands}
 use Rattle.stream_match.proofs.plan.build.Goals as goal
 
@@ -31,6 +33,15 @@ weave_rows-requires-clause-left c =
       subst (λ frames. CanLeave layout frames (output_reach layout ∷ [])) same (can_leave layout c.requires.layout),
       subst (λ frames. IsLeft layout frames (output_reach layout ∷ []) c.in_ok-left.left) same c.in_ok-left.ensures,
     )
+
+pub weave_rows-requires-clause-nothing : goal.weave_rows-requires-clause-nothing
+weave_rows-requires-clause-nothing c =
+    let layout = c.args.layout.now in
+    let input = c.args.input.now in
+    let all = all_frames layout in
+    let none = c.as_slice-4.ensures.value ∙ c.new-kept.ensures.items in
+    subst (λ (ks : List Kept). All (IsEmpty input ks) c.in_ok-left.left.stretches) (sym none)
+    (subst (All (IsEmpty input [])) (sym c.in_ok-left.ensures.stretches_are) (empty_output layout input (length all) (reads_before layout all (length all))))
 
 pub returns-clause-exact : goal.returns-clause-exact
 returns-clause-exact c =
