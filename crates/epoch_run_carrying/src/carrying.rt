@@ -116,6 +116,9 @@ fn carry_stretch(
         ++ filter (is_behind cursors.now) (elements_at (stretch_places leaving) values.now)) }
 {
     let passed = passed_over(cursors, leaving);
+    if passed == leaving.count {
+        return Ok(());
+    }
     let first = leaving.first + u64::from(passed);
     add_elements(carried, leaving.stream, first, &values[passed as usize..])?;
     Ok(())

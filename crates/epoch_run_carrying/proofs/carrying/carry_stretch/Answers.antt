@@ -1,5 +1,5 @@
 use Rattle.std.proofs.Common.{◌≡◌, ◌∙◌, ◌+◌, ◌-◌, ◌++◌, ap, arith, length, map, sym, drop}
-use Rattle.std.proofs.lemmas.List.{length-drop}
+use Rattle.std.proofs.lemmas.List.{append-nil, length-drop}
 use Rattle.std.proofs.lemmas.Slice.{between_to_end}
 use Rattle.std.specs.List.{between}
 use Rattle.flow_core_epochs.specs.Epoch.{elements_at}
@@ -7,6 +7,16 @@ use Rattle.flow_core_laws.specs.Place.{places_from}
 use Rattle.stream_match.specs.Kept.{kept_of}
 use Rattle.epoch_run_carrying.proofs.Filtering.{stretch_carried}
 use Rattle.epoch_run_carrying.proofs.carrying.carry_stretch.Goals as goal
+
+pub returns-then-passed-leaving : goal.returns-then-passed-leaving
+returns-then-passed-leaving c =
+    let s = c.args.leaving in
+    let p = c.passed_over-passed.result in
+    let values = c.args.values.now in
+    let old = map kept_of c.args.carried.now.items in
+    sym (append-nil old)
+    ∙ ap (λ n. old ++ elements_at (places_from s.stream (s.first + p) n) (drop p values)) (let e : 0 ≡ s.count - p = omega arith in e)
+    ∙ ap (λ ks. old ++ ks) (sym (stretch_carried c.args.cursors.now s p values c.passed_over-passed.ensures.passed c.requires.as_many))
 
 pub returns : goal.returns
 returns c =
