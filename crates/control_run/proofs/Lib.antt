@@ -6,6 +6,7 @@ pub mod Coming
 pub mod Ended
 pub mod Making
 pub mod Joining
+pub mod Untaken
 pub mod Sites
 pub mod Ready
 pub mod Prefixes

@@ -2,5 +2,6 @@
 pub mod Stretches
 -- What restates private functions.
 pub mod Spawning
+pub mod Ticking
 pub mod Ending
 pub mod Standing

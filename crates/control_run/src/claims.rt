@@ -3,7 +3,7 @@
 ghost use Rattle.std.specs.Prelude.{◌≡◌, ℕ, ◌*◌, ◌<◌, ◌≤◌, All, if◌then◌else◌, length, map, Some, pos, slice_index_or, IfOk};
 ghost use Rattle.c_int.specs.declared.trap.Trap.TheVariants as traps;
 ghost use Rattle.os_code.specs.Machine as machine;
-ghost use Rattle.control_run.specs.Spawning.{HasWindow, with_claims};
+ghost use Rattle.control_run.specs.Spawning.{HasWindow, with_claim_set, with_claims};
 
 use crate::numbers::{amount_of, size_of, stream_of};
 use c_int::Trap;
@@ -32,28 +32,28 @@ pub(crate) fn set_claims(
     for (k, item) in items.iter().enumerate() {
         let index = number_at(operands, 2 * k);
         let burst = number_at(operands, 2 * k + 1);
-        match claim_of(streams, slots, *item, index, burst) {
-            Ok(claim) => {
-                positions += claim.horizon;
-                claims[k] = claim;
-            }
+        match set_claim(streams, slots, *item, index, burst, &mut claims[k]) {
+            Ok(horizon) => positions += horizon,
             Err(trap) => return Err(trap),
         }
     }
     Ok(positions)
 }
 
-/// The claim of an item, or its trap: the stream is looked at first, then the horizon, then the burst.
+/// Sets the claim of an item and answers how many positions it covers; or answers its trap, and then the claim stays as
+/// it was. The stream is looked at first, then the horizon, then the burst.
 #[inline(always)]
-fn claim_of(
+fn set_claim(
     streams: u32,
     slots: &[i32],
     item: SiteItem,
     index: i32,
     burst: i32,
-) -> Result<Claim, Trap>
+    claim: &mut Claim,
+) -> Result<u32, Trap>
     requires { HasWindow (length slots.now) item }
-    ensures { result ≡ machine.claim_of streams slots.now item index burst }
+    ensures claim { with_claim_set result claim.new ≡ machine.claim_of streams slots.now item index burst }
+    ensures positions { IfOk result (λ positions. positions ≡ claim.new.horizon) }
 {
     match stream_of(streams, forbidden_to(item), item.stream, index) {
         None => Err(Trap::Index),
@@ -61,13 +61,16 @@ fn claim_of(
             None => Err(Trap::WindowSize),
             Some(horizon) => match burst_of(item, horizon, burst) {
                 None => Err(burst_trap(item)),
-                Some(burst) => Ok(Claim {
-                    stream,
-                    write: item.write,
-                    horizon,
-                    burst,
-                    skip: 0,
-                }),
+                Some(burst) => {
+                    *claim = Claim {
+                        stream,
+                        write: item.write,
+                        horizon,
+                        burst,
+                        skip: 0,
+                    };
+                    Ok(horizon)
+                }
             },
         },
     }

@@ -24,6 +24,7 @@ mod spare;
 mod spawning;
 mod stage;
 mod stretches;
+mod ticked;
 
 pub use control::run_control;
 pub use stretches::ControlRun;

@@ -1,11 +1,9 @@
-ghost use Rattle.std.specs.Prelude.{◌≡◌, ◌+◌, ◌^◌, ◌<◌, All, length, replicate, slice_set, IfOk};
-ghost use Rattle.flow_core_laws.specs.declared.claim.Claim.{Claim as TheClaim};
-ghost use Rattle.os_code.specs.Machine.{skip_at, claims_with_skips, skips_after_all};
+ghost use Rattle.std.specs.Prelude.{◌≡◌, ◌+◌, ◌^◌, ◌<◌, replicate, IfOk};
 ghost use Rattle.control_run.specs.Spawning.{limit_of};
 
+use crate::ticked::Ticked;
 use c_int::ControlLimit;
-use flow_core_laws::Claim;
-use os_io::{List, Memory};
+use os_io::Memory;
 use std::alloc::Global;
 
 /// What `main` has made, but for the activations themselves.
@@ -14,7 +12,7 @@ pub(crate) struct Made {
     /// How many activations it has created.
     pub created: u32,
     /// For each stream what ticks took from it since its last read claim.
-    pub skips: List<u64>,
+    pub skips: Ticked,
     /// How many positions the claims of the activations cover together.
     pub horizons: u32,
 }
@@ -24,14 +22,9 @@ impl Made {
     pub fn new(alloc: Global, streams: u32) -> Result<Made, Memory>
         ensures { IfOk result (λ made. made ≡ record { created = 0; skips = replicate streams 0; horizons = 0 }) }
     {
-        let mut skips = List::new(alloc);
-        skips.reserve(streams as usize)?;
-        for _ in 0..streams {
-            skips.push(0)?;
-        }
         Ok(Made {
             created: 0,
-            skips,
+            skips: Ticked::new(alloc, streams)?,
             horizons: 0,
         })
     }
@@ -49,32 +42,4 @@ impl Made {
             None
         }
     }
-}
-
-/// Gives read claims what ticks took from their streams, which then is 0 again.
-pub(crate) fn take_skips(claims: &mut [Claim], skips: &mut [u64])
-    requires { All (λ (claim : TheClaim). claim.stream < length skips.old) claims.old }
-    ensures claims { claims.new ≡ claims_with_skips skips.old claims.old }
-    ensures skips { skips.new ≡ skips_after_all skips.old claims.old }
-{
-    for k in 0..claims.len() {
-        let claim = claims[k];
-        if !claim.write {
-            claims[k] = Claim {
-                skip: skips[claim.stream as usize],
-                ..claim
-            };
-            skips[claim.stream as usize] = 0;
-        }
-    }
-}
-
-/// Adds what a tick takes from a stream.
-#[inline(always)]
-pub(crate) fn tick(skips: &mut [u64], stream: u32, taken: u32)
-    requires exists { stream < length skips.old }
-    requires fits { skip_at skips.old stream + taken < 2 ^ 64 }
-    ensures { skips.new ≡ slice_set skips.old stream (skip_at skips.old stream + taken) }
-{
-    skips[stream as usize] += u64::from(taken);
 }

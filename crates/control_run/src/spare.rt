@@ -55,9 +55,13 @@ impl Spare {
                 if one.captured.len() == captured && one.claims.len() == claims {
                     return Ok(one);
                 }
-                self.look_on(alloc, captured, claims)
+                let other = self.look_on(alloc, captured, claims)?;
+                Ok(other)
             }
-            None => blank(alloc, captured, claims),
+            None => {
+                let new = blank(alloc, captured, claims)?;
+                Ok(new)
+            }
         }
     }
 

@@ -3,7 +3,7 @@ ghost use Rattle.os_code.specs.Machine.{spawned_claims};
 ghost use Rattle.control_run.specs.Spawning.{HasWindow, spawn_end, spawn_list, spawn_made};
 
 use crate::claims::{set_captured, set_claims};
-use crate::made::{Made, take_skips};
+use crate::made::Made;
 use crate::spare::Spare;
 use flow_core_laws::{Activation, ControlEnd};
 use os_code::Site;
@@ -63,7 +63,7 @@ pub(crate) fn spawn(
         return Ok(Some(ControlEnd::Limit(limit.code())));
     }
     set_captured(slots, site.captured.as_slice(), captured.as_mut_slice());
-    take_skips(claims.as_mut_slice(), made.skips.as_mut_slice());
+    made.skips.give(claims.as_mut_slice());
     into.push(Activation {
         site: number,
         captured,

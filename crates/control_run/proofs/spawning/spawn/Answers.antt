@@ -1,10 +1,10 @@
-use Rattle.std.proofs.Common.{◌<◌, length, List, sym, ap, subst, ◌∙◌, arith}
+use Rattle.std.proofs.Common.{◌≡◌, ◌<◌, length, List, sym, ap, subst, ◌∙◌, arith}
 use Rattle.std.specs.Prelude.{All}
 use Rattle.std.proofs.lemmas.List.{take_at}
 use Rattle.flow_core_laws.specs.declared.claim.Claim.{Claim}
 use Rattle.os_code.specs.declared.site.SiteItem.{SiteItem}
 use Rattle.os_code.specs.Machine.{spawned_claims}
-use Rattle.control_run.proofs.Claimed.{made-few, made-sum, made-streams, all-made-so}
+use Rattle.control_run.proofs.Claimed.{made-few, made-sum, made-streams, made-nothing, all-made-so}
 use Rattle.control_run.proofs.spawning.spawn.Goals as goal
 
 pub limit-requires : goal.limit-requires
@@ -17,10 +17,16 @@ limit-requires c =
     let e = c.in-Ok.ensures.positions in
     omega (arith, few, sum, most, before, e)
 
-pub take_skips-requires : goal.take_skips-requires
-take_skips-requires c =
+pub give-requires-clause-streams : goal.give-requires-clause-streams
+give-requires-clause-streams c =
     let is = all-made-so _ _ _ _ c.set_claims.ensures.claims c.in-Ok.is ∙ ap (λ (items : List SiteItem). spawned_claims c.args.streams c.args.slots.now items c.args.operands.now) c.as_slice.ensures in
     let same = c.as_mut_slice-3.ensures.value ∙ take_at c.set_claims.new.claims _ _ (c.set_claims.auto.claims ∙ ap length c.as_mut_slice.ensures.value) in
-    subst (λ (claims : List Claim). All (λ (claim : Claim). claim.stream < length c.as_mut_slice-4.result.now) claims) (sym same)
-    (made-streams c.args.streams c.args.slots.now c.args.site.now.items c.args.operands.now _ (length c.as_mut_slice-4.result.now) c.requires.pairs (sym is)
-    (ap length c.as_mut_slice-4.ensures.value ∙ c.requires.streams))
+    subst (λ (claims : List Claim). All (λ (claim : Claim). claim.stream < length c.args.made.now.skips) claims) (sym same)
+    (made-streams c.args.streams c.args.slots.now c.args.site.now.items c.args.operands.now _ (length c.args.made.now.skips) c.requires.pairs (sym is) c.requires.streams)
+
+pub give-requires-clause-nothing : goal.give-requires-clause-nothing
+give-requires-clause-nothing c =
+    let is = all-made-so _ _ _ _ c.set_claims.ensures.claims c.in-Ok.is ∙ ap (λ (items : List SiteItem). spawned_claims c.args.streams c.args.slots.now items c.args.operands.now) c.as_slice.ensures in
+    let same = c.as_mut_slice-3.ensures.value ∙ take_at c.set_claims.new.claims _ _ (c.set_claims.auto.claims ∙ ap length c.as_mut_slice.ensures.value) in
+    subst (λ (claims : List Claim). All (λ (claim : Claim). claim.skip ≡ 0) claims) (sym same)
+    (made-nothing c.args.streams c.args.slots.now c.args.site.now.items c.args.operands.now _ c.requires.pairs (sym is))

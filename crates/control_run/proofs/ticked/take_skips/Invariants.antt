@@ -1,7 +1,7 @@
 use Rattle.std.proofs.Common.{◌≡◌, ◌<◌, ◌++◌, All, length, take, drop}
 use Rattle.flow_core_laws.specs.declared.claim.Claim.{Claim}
 use Rattle.os_code.specs.Machine.{claims_with_skips, skips_after_all}
-use Rattle.control_run.proofs.made.take_skips.Given as goal
+use Rattle.control_run.proofs.ticked.take_skips.Given as goal
 
 abbrev pub invariant-loop-k : goal.invariant-loop-k
 invariant-loop-k l = record {
