@@ -47,14 +47,15 @@ pub(crate) fn weave_rows(
     append(&mut pieces, left.pieces.as_slice())?;
     let waits = filled.waits.as_slice();
     let plans = epoch_frames(alloc, layout, frames, pieces.as_slice(), waits)?;
-    let placed = place_by_frame(alloc, pieces.as_slice(), plans.as_slice())?;
+    let carried = pieces.len() as u32;
+    let placed = place_by_frame(alloc, pieces, plans.as_slice())?;
     let numbers = List::from_slice(alloc, frames)?;
     let sink = FramePlan {
         cell: read.next,
         inputs: left.next - read.next,
         outputs: 0,
         wait: waits[frames.len()],
-        piece: pieces.len() as u32,
+        piece: carried,
         pieces: 0,
     };
     Ok(Plan {

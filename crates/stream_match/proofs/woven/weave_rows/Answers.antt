@@ -102,7 +102,7 @@ place_by_frame-requires-clause-from c =
     let frames = c.args.frames.now in
     let sink = c.requires.left.0 in
     let rows = rows_of layout frames sink c.args.read.now c.args.left.now c.as_slice-reads.result.now c.as_slice-leaves.result.now c.requires.read c.requires.left.2 c.as_slice-reads.ensures c.as_slice-leaves.ensures in
-    subst (λ n. All (λ (p : Piece). p.from < n) c.as_slice-3.result.now) (sym (plans_count c.as_slice-4.result.now layout frames c.as_slice-2.result.now c.as_slice-waits.result.now (c.as_slice-4.ensures ∙ c.in_ok-plans.ensures))) (pieces_from_frames layout is frames c.requires.frames sink c.requires.left.1 c.as_slice-reads.result.now c.as_slice-leaves.result.now c.args.read.now.next c.args.left.now.next rows c.args.input.now c.args.kept.now c.as_slice-3.result.now (c.as_slice-3.ensures ∙ (gathered_both c.args.layout.now c.args.frames.now c.requires.left.0 c.args.left.now c.as_slice-reads.result.now c.as_slice-leaves.result.now c.in_ok-pieces.pieces c.as_slice.result.now c.append.new.pieces c.requires.left.2 c.as_slice-leaves.ensures c.in_ok-pieces.ensures c.as_slice.ensures c.in_ok-append.ensures)))
+    subst (λ n. All (λ (p : Piece). p.from < n) c.append.new.pieces) (sym (plans_count c.as_slice-3.result.now layout frames c.as_slice-2.result.now c.as_slice-waits.result.now (c.as_slice-3.ensures ∙ c.in_ok-plans.ensures))) (pieces_from_frames layout is frames c.requires.frames sink c.requires.left.1 c.as_slice-reads.result.now c.as_slice-leaves.result.now c.args.read.now.next c.args.left.now.next rows c.args.input.now c.args.kept.now c.append.new.pieces ((gathered_both c.args.layout.now c.args.frames.now c.requires.left.0 c.args.left.now c.as_slice-reads.result.now c.as_slice-leaves.result.now c.in_ok-pieces.pieces c.as_slice.result.now c.append.new.pieces c.requires.left.2 c.as_slice-leaves.ensures c.in_ok-pieces.ensures c.as_slice.ensures c.in_ok-append.ensures)))
 
 pub place_by_frame-requires-clause-few : goal.place_by_frame-requires-clause-few
 place_by_frame-requires-clause-few c =
@@ -111,7 +111,7 @@ place_by_frame-requires-clause-few c =
     let frames = c.args.frames.now in
     let sink = c.requires.left.0 in
     let rows = rows_of layout frames sink c.args.read.now c.args.left.now c.as_slice-reads.result.now c.as_slice-leaves.result.now c.requires.read c.requires.left.2 c.as_slice-reads.ensures c.as_slice-leaves.ensures in
-    omega (arith, pieces_are_few layout is frames c.requires.frames sink c.requires.left.1 c.as_slice-reads.result.now c.as_slice-leaves.result.now c.args.read.now.next c.args.left.now.next rows c.as_slice-3.result.now (c.as_slice-3.ensures ∙ (gathered_both c.args.layout.now c.args.frames.now c.requires.left.0 c.args.left.now c.as_slice-reads.result.now c.as_slice-leaves.result.now c.in_ok-pieces.pieces c.as_slice.result.now c.append.new.pieces c.requires.left.2 c.as_slice-leaves.ensures c.in_ok-pieces.ensures c.as_slice.ensures c.in_ok-append.ensures)))
+    omega (arith, pieces_are_few layout is frames c.requires.frames sink c.requires.left.1 c.as_slice-reads.result.now c.as_slice-leaves.result.now c.args.read.now.next c.args.left.now.next rows c.append.new.pieces ((gathered_both c.args.layout.now c.args.frames.now c.requires.left.0 c.args.left.now c.as_slice-reads.result.now c.as_slice-leaves.result.now c.in_ok-pieces.pieces c.as_slice.result.now c.append.new.pieces c.requires.left.2 c.as_slice-leaves.ensures c.in_ok-pieces.ensures c.as_slice.ensures c.in_ok-append.ensures)))
 
 pub place_by_frame-requires-clause-places : goal.place_by_frame-requires-clause-places
 place_by_frame-requires-clause-places c =
@@ -120,19 +120,19 @@ place_by_frame-requires-clause-places c =
     let frames = c.args.frames.now in
     let sink = c.requires.left.0 in
     let rows = rows_of layout frames sink c.args.read.now c.args.left.now c.as_slice-reads.result.now c.as_slice-leaves.result.now c.requires.read c.requires.left.2 c.as_slice-reads.ensures c.as_slice-leaves.ensures in
-    subst (λ n. HasPlace c.as_slice-4.result.now c.as_slice-3.result.now n) (sym (plans_count c.as_slice-4.result.now layout frames c.as_slice-2.result.now c.as_slice-waits.result.now (c.as_slice-4.ensures ∙ c.in_ok-plans.ensures))) (subst (λ ps. HasPlace c.as_slice-4.result.now ps (length frames)) (c.as_slice-2.ensures ∙ sym c.as_slice-3.ensures) (has_place layout frames c.as_slice-2.result.now c.as_slice-waits.result.now c.as_slice-4.result.now (c.as_slice-4.ensures ∙ c.in_ok-plans.ensures)))
+    subst (λ n. HasPlace c.as_slice-3.result.now c.append.new.pieces n) (sym (plans_count c.as_slice-3.result.now layout frames c.as_slice-2.result.now c.as_slice-waits.result.now (c.as_slice-3.ensures ∙ c.in_ok-plans.ensures))) (subst (λ ps. HasPlace c.as_slice-3.result.now ps (length frames)) c.as_slice-2.ensures (has_place layout frames c.as_slice-2.result.now c.as_slice-waits.result.now c.as_slice-3.result.now (c.as_slice-3.ensures ∙ c.in_ok-plans.ensures)))
 
 pub bounds-waits-frames : goal.bounds-waits-frames
 bounds-waits-frames c = omega (arith, ap length c.as_slice-waits.ensures.value, c.in_ok-filled.ensures.frames)
 
-pub overflow_cast-sink : goal.overflow_cast-sink
-overflow_cast-sink c =
+pub overflow_cast-carried : goal.overflow_cast-carried
+overflow_cast-carried c =
     let layout = c.args.layout.now in
     let is = c.requires.layout in
     let frames = c.args.frames.now in
     let sink = c.requires.left.0 in
     let rows = rows_of layout frames sink c.args.read.now c.args.left.now c.as_slice-reads.result.now c.as_slice-leaves.result.now c.requires.read c.requires.left.2 c.as_slice-reads.ensures c.as_slice-leaves.ensures in
-    omega (arith, ap length (gathered_both c.args.layout.now c.args.frames.now c.requires.left.0 c.args.left.now c.as_slice-reads.result.now c.as_slice-leaves.result.now c.in_ok-pieces.pieces c.as_slice.result.now c.append.new.pieces c.requires.left.2 c.as_slice-leaves.ensures c.in_ok-pieces.ensures c.as_slice.ensures c.in_ok-append.ensures), c.len-2.ensures, pieces_are_few layout is frames c.requires.frames sink c.requires.left.1 c.as_slice-reads.result.now c.as_slice-leaves.result.now c.args.read.now.next c.args.left.now.next rows c.append.new.pieces (gathered_both c.args.layout.now c.args.frames.now c.requires.left.0 c.args.left.now c.as_slice-reads.result.now c.as_slice-leaves.result.now c.in_ok-pieces.pieces c.as_slice.result.now c.append.new.pieces c.requires.left.2 c.as_slice-leaves.ensures c.in_ok-pieces.ensures c.as_slice.ensures c.in_ok-append.ensures))
+    omega (arith, ap length (gathered_both c.args.layout.now c.args.frames.now c.requires.left.0 c.args.left.now c.as_slice-reads.result.now c.as_slice-leaves.result.now c.in_ok-pieces.pieces c.as_slice.result.now c.append.new.pieces c.requires.left.2 c.as_slice-leaves.ensures c.in_ok-pieces.ensures c.as_slice.ensures c.in_ok-append.ensures), c.len-carried.ensures, pieces_are_few layout is frames c.requires.frames sink c.requires.left.1 c.as_slice-reads.result.now c.as_slice-leaves.result.now c.args.read.now.next c.args.left.now.next rows c.append.new.pieces (gathered_both c.args.layout.now c.args.frames.now c.requires.left.0 c.args.left.now c.as_slice-reads.result.now c.as_slice-leaves.result.now c.in_ok-pieces.pieces c.as_slice.result.now c.append.new.pieces c.requires.left.2 c.as_slice-leaves.ensures c.in_ok-pieces.ensures c.as_slice.ensures c.in_ok-append.ensures))
 
 pub returns : goal.returns
 returns c = λ sink can is_left.
@@ -149,13 +149,13 @@ returns c = λ sink can is_left.
     let next = c.args.read.now.next in
     let end = c.args.left.now.next in
     let nothing = subst (All (IsEmpty input kept)) (sym c.as_slice-leaves.ensures) c.requires.nothing in
-    plan_made layout is frames c.requires.frames sink can c.as_slice-reads.result.now c.as_slice-leaves.result.now c.args.read.now.next c.args.left.now.next rows c.args.input.now c.args.kept.now c.in_ok-filled.filled.cells waits c.append.new.pieces c.in_ok-plans.plans c.in_ok-placed.placed c.in_ok-numbers.numbers (c.args.left.now.next - c.args.read.now.next) (get_or waits (length frames) 0) c.len-2.result
+    plan_made layout is frames c.requires.frames sink can c.as_slice-reads.result.now c.as_slice-leaves.result.now c.args.read.now.next c.args.left.now.next rows c.args.input.now c.args.kept.now c.in_ok-filled.filled.cells waits c.append.new.pieces c.in_ok-plans.plans c.in_ok-placed.placed c.in_ok-numbers.numbers (c.args.left.now.next - c.args.read.now.next) (get_or waits (length frames) 0) c.len-carried.result
     (c.in_ok-filled.ensures.cells ∙ ap (λ xs. flat_map (filled_cells input kept) reads ++ xs) (sym (cells_left layout is frames c.requires.frames sink can reads leaves next end rows input kept nothing)))
     (λ f lt. ap (λ xs. get_or xs f 0) waits_are ∙ c.in_ok-filled.ensures.waits f lt ∙ ap (λ n. sum_by (empty_in input kept f) reads + n) (sym (waits_left layout is frames c.requires.frames sink can reads leaves next end rows input kept nothing f)))
     (gathered_both c.args.layout.now c.args.frames.now sink c.args.left.now c.as_slice-reads.result.now c.as_slice-leaves.result.now c.in_ok-pieces.pieces c.as_slice.result.now c.append.new.pieces is_left c.as_slice-leaves.ensures c.in_ok-pieces.ensures c.as_slice.ensures c.in_ok-append.ensures)
     (c.in_ok-plans.ensures ∙ ap (λ ps. map (epoch_frame layout frames ps waits) (range_with_len 0 (length frames))) c.as_slice-2.ensures)
-    (c.in_ok-placed.ensures ∙ ap (λ n. by_frame c.as_slice-3.result.now n) (plans_count c.as_slice-4.result.now layout frames c.as_slice-2.result.now waits (c.as_slice-4.ensures ∙ c.in_ok-plans.ensures)) ∙ ap (λ ps. by_frame ps (length frames)) c.as_slice-3.ensures)
+    (c.in_ok-placed.ensures ∙ ap (λ n. by_frame c.append.new.pieces n) (plans_count c.as_slice-3.result.now layout frames c.as_slice-2.result.now waits (c.as_slice-3.ensures ∙ c.in_ok-plans.ensures)))
     c.in_ok-numbers.ensures
     refl
     refl
-    c.len-2.ensures
+    c.len-carried.ensures
