@@ -15,7 +15,10 @@ use flow_core::{Board, Bodies, Plan, TaskEnd};
 use os_io::Memory;
 use std::thread::{Threads, join_mut};
 
-/// Runs frames of a round by so many workers, 1 to 64, each in a thread: a part of the frames by each half
+/// How many workers at most get all their threads from one of them.
+const STARTED_BY_ONE: usize = 8;
+
+/// Runs frames of a round by so many workers, 1 to 64, each in a thread: a part of the frames by each part
 /// of the workers. Where no thread can be made, the caller does the work.
 ///
 /// The ends stand in the order of the frames, and so do the outputs, those of one frame behind those of
@@ -54,7 +57,7 @@ pub fn run_by<R: Threads + Sync, B: Bodies<Scratch = S>, G: Gate, S: Send + Drop
     )
 }
 
-/// Runs a part of a round: by one worker in this thread, by more in halves.
+/// Runs a part of a round: by one worker in this thread, by more in two parts, of which a new thread runs the first.
 #[cycle(halves)]
 fn run_part<R: Threads + Sync, B: Bodies<Scratch = S>, G: Gate, S: Send + Drop>(
     rt: &R,
@@ -86,7 +89,7 @@ fn run_part<R: Threads + Sync, B: Bodies<Scratch = S>, G: Gate, S: Send + Drop>(
             &mut workers[0],
         );
     }
-    let low = workers.len() / 2;
+    let low = sent_off(workers.len());
     let (front, back) = frames.split_at(share_of(frames.len(), low, workers.len()));
     let (front_ends, back_ends) = ends.split_at_mut(front.len());
     let (front_outputs, back_outputs) = outputs.split_at_mut(outputs_of(plan, front));
@@ -106,6 +109,20 @@ fn run_part<R: Threads + Sync, B: Bodies<Scratch = S>, G: Gate, S: Send + Drop>(
         back_outputs,
         second,
     )
+}
+
+/// How many of the workers a new thread takes along. Where they are few, it is one of them, so that this thread starts the threads of
+/// all others and none of them waits until another one has begun; half of many, since it takes a thread long to start many.
+fn sent_off(workers: usize) -> usize
+    requires { 2 ≤ workers }
+    ensures some { 1 ≤ result }
+    ensures not_all { result < workers }
+{
+    if workers <= STARTED_BY_ONE {
+        1
+    } else {
+        workers / 2
+    }
 }
 
 /// How many of the frames so many of the workers run.
