@@ -1,39 +1,54 @@
-ghost use Rattle.std.specs.Prelude.{◌≡◌, ◌≢◌, ◌<◌, ℕ, All, IfOk, false, filter, if◌then◌else◌, length, not, slice_index, slice_index_or, slice_set, true};
+ghost use Rattle.std.specs.Prelude.{◌≡◌, ◌≢◌, ◌<◌, ◌≤◌, ℕ, All, IfOk, false, filter, if◌then◌else◌, length, not, slice_index, slice_index_or, slice_set, true};
 ghost use Rattle.stream_match.specs.EpochCode.{Ascend};
 ghost use Rattle.stream_match_layouts.specs.Layout.{IsLayout};
 ghost use Rattle.stream_match_layouts.specs.Spans.{frame_count};
 ghost use Rattle.epoch_run_ready.specs.Waiting.{AreMissing, AreWaiting};
 
 use crate::missing::lower;
-use crate::waiting::spans_wait;
+use crate::waiting::{read_behind, spans_wait};
 use os_io::{List, Memory};
 use std::alloc::Global;
 use stream_match_layouts::Layout;
 
-/// Marks readers that wait, the last one first: so a mark goes from each to those before it that wait for it. It answers
-/// whether any waits.
+/// How many readers there are up to the last one that reads behind all that is written, by the positions there: with none nobody waits.
+pub(crate) fn up_to_last_behind(layout: &Layout, missing: &[u64], readers: &[u32]) -> usize
+    requires layout { IsLayout layout.now }
+    requires readers { All (λ a. a < frame_count layout.now) readers.now }
+    requires missing { length missing.now ≡ length layout.now.writers }
+    ensures { result ≤ length readers.now }
+{
+    let mut left = readers.len();
+    'readers: while left > 0 {
+        let spans = layout.spans_of(readers[left - 1] as usize);
+        if read_behind(missing, spans) {
+            return left;
+        }
+        left -= 1;
+    }
+    0
+}
+
+/// Marks those of the first so many readers that wait, the last one first: so a mark goes from each to those before it that wait for it.
 pub(crate) fn mark_back(
     layout: &Layout,
     waits: &mut [bool],
     missing: &mut [u64],
     readers: &[u32],
-) -> bool
+    count: usize,
+)
     requires layout { IsLayout layout.now }
     requires readers { All (λ a. a < frame_count layout.now) readers.now }
+    requires count { count ≤ length readers.now }
     requires waiting { AreWaiting layout.now readers.now waits.old }
     requires missing { AreMissing layout.now waits.old missing.old }
     ensures waiting { AreWaiting layout.now readers.now waits.new }
     ensures missing { AreMissing layout.now waits.new missing.new }
 {
-    let mut found = false;
-    let mut left = readers.len();
+    let mut left = count;
     'marking: while left > 0 {
         left -= 1;
-        if mark(layout, waits, missing, readers, left) {
-            found = true;
-        }
+        let _ = mark(layout, waits, missing, readers, left);
     }
-    found
 }
 
 /// The readers that have no mark and don't wait, in their order. Those that wait get a mark, the first one first: so it goes from each

@@ -6,7 +6,7 @@ ghost use Rattle.stream_match_layouts.specs.Layout.{IsLayout, IsLayoutOf};
 ghost use Rattle.stream_match_layouts.specs.Spans.{frame_count};
 ghost use Rattle.epoch_run_ready.specs.Waiting.{AreUnmarked};
 
-use crate::marking::{mark_back, others};
+use crate::marking::{mark_back, others, up_to_last_behind};
 use crate::missing::behind_all;
 use os_io::{List, Memory};
 use std::alloc::Global;
@@ -25,25 +25,28 @@ pub fn ready_frames(alloc: Global, layout: &Layout, readers: &[u32]) -> Result<L
     Ok(frames)
 }
 
-/// Those of the readers that don't wait, by marks of those that do: all of them, with no second look, where none does.
+/// Those of the readers that don't wait, by marks of those that do: all of them, with no second look, where none reads behind all that
+/// is written.
 fn chosen(alloc: Global, layout: &Layout, readers: &[u32]) -> Result<List<u32>, Memory>
     requires layout { IsLayout layout.now }
     requires readers { All (λ a. a < frame_count layout.now) readers.now }
     ensures { IfOk result (λ frames. AreUnmarked layout.now readers.now frames) }
 {
+    let mut missing = behind_all(alloc, layout)?;
+    let count = up_to_last_behind(layout, missing.as_slice(), readers);
+    if count == 0 {
+        let frames = List::from_slice(alloc, readers)?;
+        return Ok(frames);
+    }
     let mut waits = Vec::new(alloc);
     waits.resize(layout.frames(), false)?;
-    let mut missing = behind_all(alloc, layout)?;
-    let found = mark_back(
+    mark_back(
         layout,
         waits.as_mut_slice(),
         missing.as_mut_slice(),
         readers,
+        count,
     );
-    if !found {
-        let frames = List::from_slice(alloc, readers)?;
-        return Ok(frames);
-    }
     let frames = others(
         alloc,
         layout,

@@ -7,6 +7,19 @@ ghost use Rattle.epoch_run_ready.specs.Waiting.{AreMissing, HasWaitingSpan, Span
 use crate::marking::is_marked;
 use stream_match_layouts::{Layout, Span};
 
+/// Whether one of some spans reads behind all that is written, by the positions of the streams there.
+pub(crate) fn read_behind(missing: &[u64], spans: &[Span]) -> bool
+    requires exist { All (λ (s : Span). s.stream < length missing.now) spans.now }
+    requires small { All (λ (s : Span). s.first < 2 ^ 62) spans.now }
+{
+    for span in spans {
+        if !span.write && missing[span.stream as usize] < span.first + u64::from(span.count) {
+            return true;
+        }
+    }
+    false
+}
+
 /// Whether one of the spans of an activation reads an element that can't come.
 pub(crate) fn spans_wait(layout: &Layout, waits: &[bool], missing: &[u64], spans: &[Span]) -> bool
     requires layout { IsLayout layout.now }

@@ -1,4 +1,4 @@
-use Rattle.std.proofs.Common.{◌∙◌, Bool, List, false, refl, replicate, subst, sym, ℕ}
+use Rattle.std.proofs.Common.{◌≡◌, ◌∙◌, [], Bool, List, ap, false, length, refl, replicate, rules, subst, sym, ℕ}
 use Rattle.std.proofs.lemmas.List.{length-replicate}
 use Rattle.stream_match_layouts.specs.Spans.{frame_count}
 use Rattle.epoch_run_ready.specs.Waiting.{AreMissing}
@@ -6,12 +6,21 @@ use Rattle.epoch_run_ready.proofs.Marks.{mark_none, no_mark}
 use Rattle.epoch_run_ready.proofs.Passing.{unmarked_all}
 use Rattle.epoch_run_ready.proofs.ready.chosen.Goals as goal
 
-pub mark_back-found-requires-clause-missing : goal.mark_back-found-requires-clause-missing
-mark_back-found-requires-clause-missing c =
+pub up_to_last_behind-count-requires-clause-missing : goal.up_to_last_behind-count-requires-clause-missing
+up_to_last_behind-count-requires-clause-missing c = ap (λ (xs : List ℕ). length xs) c.as_slice.ensures.value ∙ (c.in_ok-missing.ensures []).one_each
+
+pub mark_back-requires-clause-waiting : goal.mark_back-requires-clause-waiting
+mark_back-requires-clause-waiting c =
+    let n = frame_count c.args.layout.now in
+    let is : c.as_mut_slice.result.now ≡ replicate n false = search rules in
+    mark_none c.args.layout.now c.args.readers.now c.as_mut_slice.result.now n is (ap (λ (xs : List Bool). length xs) is ∙ length-replicate n false)
+
+pub mark_back-requires-clause-missing : goal.mark_back-requires-clause-missing
+mark_back-requires-clause-missing c =
     subst (λ (xs : List ℕ). AreMissing c.args.layout.now c.as_mut_slice.result.now xs) (sym c.as_mut_slice-2.ensures.value) (c.in_ok-missing.ensures c.as_mut_slice.result.now)
 
-pub returns-then-not-found : goal.returns-then-not-found
-returns-then-not-found c =
+pub returns-then-count-eq0 : goal.returns-then-count-eq0
+returns-then-count-eq0 c =
     let layout = c.args.layout.now in
     let readers = c.args.readers.now in
     let n = frame_count layout in
