@@ -1,4 +1,4 @@
-ghost use Rattle.std.specs.Prelude.{◌≡◌, ◌≢◌, ◌+◌, ◌^◌, ◌<◌, ◌≤◌, All, IfSome, false, length, max, true};
+ghost use Rattle.std.specs.Prelude.{◌≡◌, ◌≢◌, ◌+◌, ◌^◌, ◌<◌, ◌≤◌, All, IfSome, false, length, max, true, slice_index_or};
 ghost use Rattle.stream_match_layouts.specs.Layout.{IsLayout};
 ghost use Rattle.stream_match_layouts.specs.Writers.{HasWriters, writers_on};
 ghost use Rattle.stream_match_layouts.specs.declared.span.Span.{Span};
@@ -174,10 +174,17 @@ fn is_writer_stuck(layout: &Layout, waits: &[bool], span: Span, place: usize) ->
     let number = layout.writer(span.stream, place)?;
     let writer = layout.span(number as usize);
     if meet(span, writer) {
-        Some(is_marked(waits, u32::from(writer.frame)))
+        Some(is_stuck(waits, writer))
     } else {
         None
     }
+}
+
+/// Whether the activation of a span is stuck.
+fn is_stuck(waits: &[bool], span: Span) -> bool
+    ensures { result ≡ slice_index_or waits.now span.frame false }
+{
+    is_marked(waits, u32::from(span.frame))
 }
 
 /// Whether two spans of one stream have a position in common.
