@@ -51,7 +51,7 @@ pub(crate) fn run_and_advance<R: Threads + Sync, G: Gate>(
         requires { 1 ≤ size.activations }
         ensures { OnOk result (HasAdvanced size.activations control.entry.now control.exit.now next.entry.now next.exit.now) }
     { advance(control, next, size) };
-    let (ran, created) = join_mut(rt, &mut run, &mut create);
+    let (created, ran) = join_mut(rt, &mut create, &mut run);
     ran.and(created)
 }
 
