@@ -17,9 +17,8 @@ use Rattle.flow_core_laws.specs.Window.{Window, producer, windows_of}
 use Rattle.flow_core_laws.specs.declared.activation.Activation.{Activation}
 use Rattle.stream_match.proofs.Lowering.{streams_exist}
 use Rattle.stream_match.specs.EpochPlan.{AreFrames}
-use Rattle.stream_match.specs.Kept.{kept_of, place_of}
+use Rattle.stream_match.specs.Kept.{kept_of}
 use Rattle.stream_match.specs.declared.kept.Kept.{Kept}
-use Rattle.stream_match.specs.declared.place.Place.{Place}
 use Rattle.stream_match_layouts.proofs.FrameSpans.{spans_of-windows}
 use Rattle.stream_match_layouts.proofs.Tallies.{frame_count-is}
 use Rattle.stream_match_layouts.specs.Layout.{IsLayout, IsLayoutOf, span_of}
@@ -70,16 +69,16 @@ module _ (layout : Layout) (is : IsLayout layout) (activations : List Activation
       all_has (λ (s : Span). s.stream < length layout.writers) (map span_of (windows_of activations a)) (span_of w) all (in_map span_of (windows_of activations a) w stands.0) in
       subst (λ (q : streams.Place). q.stream < length layout.writers) same lt
 
-  pub places_exist : (readers frames : List ℕ) (places : List Place) → All (λ f. f < length activations) frames → map place_of places ≡ leaving_places activations readers frames
-      → All (λ (p : Place). p.stream < length layout.writers) places
-  places_exist readers frames places exist leave = has_all (λ (p : Place). p.stream < length layout.writers) places each
+  pub places_exist : (readers frames : List ℕ) (places : List streams.Place) → All (λ f. f < length activations) frames → places ≡ leaving_places activations readers frames
+      → All (λ (p : streams.Place). p.stream < length layout.writers) places
+  places_exist readers frames places exist leave = has_all (λ (p : streams.Place). p.stream < length layout.writers) places each
     where
-      each : (p : Place) → Has places p → p.stream < length layout.writers
+      each : (p : streams.Place) → Has places p → p.stream < length layout.writers
       each p h =
-          let left = subst (λ (ps : List streams.Place). Has ps (place_of p)) leave (in_map place_of places p h) in
-          let passes = of_filter (λ (q : streams.Place). q.stream == 1 || nat_le (read_from activations readers q.stream) q.position) (flat_map (written_places activations) frames) (place_of p) left in
-          let (a, at, writes) = of_flat_map (written_places activations) frames (place_of p) passes.0 in
-          written_exists a (place_of p) (all_has (λ f. f < length activations) frames a exist at) writes
+          let left = subst (λ (ps : List streams.Place). Has ps p) leave h in
+          let passes = of_filter (λ (q : streams.Place). q.stream == 1 || nat_le (read_from activations readers q.stream) q.position) (flat_map (written_places activations) frames) p left in
+          let (a, at, writes) = of_flat_map (written_places activations) frames p passes.0 in
+          written_exists a p (all_has (λ f. f < length activations) frames a exist at) writes
 
   pub kept_exist : (frames : List ℕ) (kept : List Kept) → IsOutside activations frames (map kept_of kept) → All (λ (k : Kept). k.stream < length layout.writers) kept
   kept_exist frames kept outside = has_all (λ (k : Kept). k.stream < length layout.writers) kept each

@@ -1,18 +1,20 @@
 -- Ends and elements put over those before, one by one.
-use Rattle.std.proofs.Common.{◌≡◌, ◌≢◌, ℕ, zero, suc, ◌+◌, ◌<◌, ◌≤◌, List, [], ◌∷◌, ◌++◌, Option, Some, None, Bool, true, false, cond, ◌⊎◌, inl, inr, map, length, get_or, set, ◌-◌, drop, drop-cons, refl, sym, ap, ◌∙◌, arith}
+use Rattle.std.proofs.Common.{◌≡◌, ◌≢◌, ℕ, zero, suc, ◌+◌, ◌-◌, ◌<◌, ◌≤◌, List, [], ◌∷◌, ◌++◌, Option, Some, None, Bool, true, false, cond, ◌⊎◌, inl, inr, map, length, get_or, min, take, drop, refl, sym, ap, ◌∙◌, arith}
 use Rattle.std.specs.Prelude.{◌==◌, ◌&&◌, nat_lt}
 use Rattle.std.specs.Option.{option_map, option_map_or}
-use Rattle.std.specs.List.{position, range_with_len}
-use Rattle.std.proofs.lemmas.Bool.{and_parts, cases_eq, cases_lt, eq-eqb, eqb-true, le-ltb, lt-ltb}
-use Rattle.std.proofs.lemmas.List.{drop_all, get_or-set_other, get_or-set_same, get_or_default, length-set, same_lists}
+use Rattle.std.specs.List.{between, flat_map, position, range_with_len}
+use Rattle.std.proofs.lemmas.Bool.{cases_eq, cases_lt, eq-eqb, le-ltb, lt-ltb, ne_eqb}
+use Rattle.std.proofs.lemmas.List.{drop_all, drop-drop, get_or_append_left, get_or-append_right, get_or-drop, get_or-take, get_or_default, length-append, length-drop, length-take-le, same_lists, take-append-drop}
+use Rattle.std.proofs.lemmas.List.Edits.{length-between}
 use Rattle.std.proofs.lemmas.List.Recursion.{is_position_or_len}
 use Rattle.std.proofs.lemmas.List.FromFn.{get_or-map-range_with_len, length-map-range_with_len}
 use Rattle.flow_core_epochs.specs.Epoch.{is_output_at, number_in, output_over, put_over}
 use Rattle.flow_core_laws.specs.declared.elem.Elem.{Elem}
 use Rattle.flow_core_laws.specs.Outcome.{outcome_at}
-use Rattle.flow_core_laws.specs.Place.{Place}
-use Rattle.stream_match.specs.Kept.{place_of}
-use Rattle.stream_match.specs.declared.place.Place as code
+use Rattle.flow_core_laws.specs.Place.{Place, places_from}
+use Rattle.stream_match.specs.Stretch.{stretch_places}
+use Rattle.stream_match.specs.declared.stretch.Stretch.{Stretch}
+use Rattle.epoch_run_carrying.proofs.Leaves.{length_more, length-places, places_from_on}
 
 -- nothing more is there with nothing behind
 pub push_none : {O : Type 0} (xs : List (Option O)) (at : ℕ) → outcome_at (xs ++ None ∷ []) at ≡ outcome_at xs at
@@ -109,83 +111,157 @@ over_one output p ps v vs n = same_range (over_at (output_over output ps vs n) (
         ∙ by at (is_output_at at p)
         ∙ ap (λ o. option_map_or (outcome_at (v ∷ vs)) o (outcome_at output at)) (sym (position-cons (is_output_at at) p ps))
 
--- an element that is put
-pub over_put : (output : List (Option Elem)) (p : Place) (v : Option Elem) → p.stream ≡ 1 → p.position < length output
-    → set output p.position v ≡ output_over output (p ∷ []) (v ∷ []) (length output)
-over_put output p v of_output lt =
-    same_lists (set output p.position v) (output_over output (p ∷ []) (v ∷ []) (length output))
-    (length-set output p.position v ∙ sym (length-map-range_with_len (over_at output (p ∷ []) (v ∷ [])) 0 (length output)))
-    (λ k d within. at k d (omega (arith, length-set output p.position v)))
+-- places in two parts
+pub over_both : (output : List (Option Elem)) (ps qs : List Place) (vs ws : List (Option Elem)) (n : ℕ) → length vs ≡ length ps
+    → output_over (output_over output qs ws n) ps vs n ≡ output_over output (ps ++ qs) (vs ++ ws) n
+over_both output [] qs [] ws n same =
+    let over = output_over output qs ws n in
+    let whole : length over ≡ n = length-map-range_with_len (over_at output qs ws) 0 n in
+    ap (output_over over [] []) (sym whole) ∙ over_none over
+over_both output [] qs (v ∷ vs) ws n same = absurd (cc)
+over_both output (p ∷ ps) qs [] ws n same = absurd (cc)
+over_both output (p ∷ ps) qs (v ∷ vs) ws n same =
+    sym (over_one (output_over output qs ws n) p ps v vs n)
+    ∙ ap (λ os. output_over os (p ∷ []) (v ∷ []) n) (over_both output ps qs vs ws n (cc))
+    ∙ over_one output p (ps ++ qs) v (vs ++ ws) n
+
+-- where a position of the output stands among places of a stretch
+is_at : (k begin : ℕ) (b : Bool) → (begin == k) ≡ b → is_output_at k (record { stream = 1; position = begin }) ≡ b
+is_at k begin b e = e
+
+found_within : (k begin n : ℕ) → begin ≤ k → k < begin + n → position (is_output_at k) (places_from 1 begin n) ≡ Some (k - begin)
+found_within k begin zero low high = absurd (omega arith)
+found_within k begin (suc n) low high =
+    position-cons (is_output_at k) (record { stream = 1; position = begin }) (places_from 1 (begin + 1) n)
+    ∙ by (cases_eq begin k) (λ other. found_within k (begin + 1) n (omega arith) (omega arith))
   where
-    passes : is_output_at p.position p ≡ true
-    passes = ap (λ b. b && (p.position == p.position)) (eq-eqb p.stream 1 of_output) ∙ eq-eqb p.position p.position refl
+    rest : Option ℕ
+    rest = position (is_output_at k) (places_from 1 (begin + 1) n)
 
-    fails : (k : ℕ) → k ≢ p.position → (b : Bool) → is_output_at k p ≡ b → is_output_at k p ≡ false
-    fails k other true e = absurd (other (sym (eqb-true p.position k (and_parts (p.stream == 1) (p.position == k) e).1)))
-    fails k other false e = e
+    by : (begin ≡ k) ⊎ (begin ≢ k) → (begin ≢ k → rest ≡ Some (k - (begin + 1))) → cond (is_output_at k (record { stream = 1; position = begin })) (Some 0) (option_map suc rest) ≡ Some (k - begin)
+    by (inl same) later =
+        ap (λ b. cond b (Some 0) (option_map suc rest)) (is_at k begin true (eq-eqb begin k same)) ∙ ap Some (let e : 0 ≡ k - begin = omega arith in e)
+    by (inr other) later =
+        ap (λ b. cond b (Some 0) (option_map suc rest)) (is_at k begin false (ne_eqb begin k other))
+        ∙ ap (option_map suc) (later other)
+        ∙ ap Some (let e : suc (k - (begin + 1)) ≡ k - begin = omega arith in e)
 
-    there : (k : ℕ) (b : Bool) → is_output_at k p ≡ b → over_at output (p ∷ []) (v ∷ []) k ≡ option_map_or (outcome_at (v ∷ [])) (cond b (Some 0) (option_map suc (position (is_output_at k) []))) (outcome_at output k)
-    there k b e = ap (λ o. option_map_or (outcome_at (v ∷ [])) o (outcome_at output k)) (position-cons (is_output_at k) p [] ∙ ap (λ b. cond b (Some 0) (option_map suc (position (is_output_at k) []))) e)
+found_nowhere : (k begin n : ℕ) → (k < begin) ⊎ (begin + n ≤ k) → position (is_output_at k) (places_from 1 begin n) ≡ None
+found_nowhere k begin zero outside = first_is (is_output_at k) []
+found_nowhere k begin (suc n) outside =
+    position-cons (is_output_at k) (record { stream = 1; position = begin }) (places_from 1 (begin + 1) n)
+    ∙ ap (λ b. cond b (Some 0) (option_map suc (position (is_output_at k) (places_from 1 (begin + 1) n)))) (is_at k begin false (ne_eqb begin k (λ same. apart same outside)))
+    ∙ ap (option_map suc) (found_nowhere k (begin + 1) n (later outside))
+  where
+    apart : begin ≡ k → (k < begin) ⊎ (begin + suc n ≤ k) → ⊥
+    apart same (inl before) = omega arith
+    apart same (inr behind) = omega arith
 
-    by : (k : ℕ) (d : Option Elem) → k < length output → (k ≡ p.position) ⊎ (k ≢ p.position) → get_or (set output p.position v) k d ≡ over_at output (p ∷ []) (v ∷ []) k
-    by k d within (inl same) =
-        ap (λ i. get_or (set output p.position v) i d) same ∙ get_or-set_same output p.position v d lt
-        ∙ sym (there k true (ap (λ i. is_output_at i p) same ∙ passes))
-    by k d within (inr other) =
-        get_or-set_other output p.position k v d other ∙ get_or_default output k d None within ∙ sym (there k false (fails k other (is_output_at k p) refl))
+    later : (k < begin) ⊎ (begin + suc n ≤ k) → (k < begin + 1) ⊎ (begin + 1 + n ≤ k)
+    later (inl before) = inl (omega arith)
+    later (inr behind) = inr (omega arith)
 
-    at : (k : ℕ) (d : Option Elem) → k < length output → get_or (set output p.position v) k d ≡ get_or (output_over output (p ∷ []) (v ∷ []) (length output)) k d
-    at k d within = by k d within (cases_eq k p.position) ∙ sym (get_or-map-range_with_len (over_at output (p ∷ []) (v ∷ [])) 0 (length output) k k d within (omega arith))
+-- elements that are put from a position on, as far as there are positions
+pub over_from : (output values : List (Option Elem)) (begin f c : ℕ) → f ≡ min begin (length output) → c ≡ min (length values) (length output - f)
+    → take f output ++ (take c values ++ drop (f + c) output) ≡ output_over output (places_from 1 begin (length values)) values (length output)
+over_from output values begin f c f_is c_is =
+    same_lists (take f output ++ (take c values ++ drop (f + c) output)) (output_over output places values (length output))
+    (whole ∙ sym (length-map-range_with_len (over_at output places values) 0 (length output)))
+    (λ k d within. let lt : k < length output = omega (arith, whole) in by k d lt (cases_lt k f) ∙ sym (get_or-map-range_with_len (over_at output places values) 0 (length output) k k d lt (omega arith)))
+  where
+    places : List Place
+    places = places_from 1 begin (length values)
 
-pub over_stays : (output : List (Option Elem)) (p : Place) (v : Option Elem) → ((at : ℕ) → at < length output → is_output_at at p ≡ false)
-    → output ≡ output_over output (p ∷ []) (v ∷ []) (length output)
-over_stays output p v other =
-    sym (same_range (over_at output (p ∷ []) (v ∷ [])) (over_at output [] []) 0 (length output)
-    (λ at low high. ap (λ o. option_map_or (outcome_at (v ∷ [])) o (outcome_at output at)) (position-cons (is_output_at at) p [] ∙ ap (λ b. cond b (Some 0) (option_map suc (position (is_output_at at) []))) (other at (omega arith))))
+    whole : length (take f output ++ (take c values ++ drop (f + c) output)) ≡ length output
+    whole =
+        let e = length-append (take f output) (take c values ++ drop (f + c) output) in
+        let g = length-append (take c values) (drop (f + c) output) in
+        let x = length-take-le f output (omega arith) in
+        let y = length-take-le c values (omega arith) in
+        let z = length-drop (f + c) output in
+        omega arith
+
+    past : (k : ℕ) (d : Option Elem) → f ≤ k → get_or (take f output ++ (take c values ++ drop (f + c) output)) k d ≡ get_or (take c values ++ drop (f + c) output) (k - f) d
+    past k d low = get_or-append_right (take f output) (take c values ++ drop (f + c) output) f k d (length-take-le f output (omega arith)) low
+
+    outside : (k : ℕ) (d : Option Elem) → k < length output → (k < begin) ⊎ (begin + length values ≤ k) → get_or output k d ≡ over_at output places values k
+    outside k d lt where_at =
+        get_or_default output k d None lt ∙ sym (ap (λ o. option_map_or (outcome_at values) o (outcome_at output k)) (found_nowhere k begin (length values) where_at))
+
+    behind : (k : ℕ) (d : Option Elem) → k < length output → f ≤ k → (k < f + c) ⊎ (f + c ≤ k) → get_or (take f output ++ (take c values ++ drop (f + c) output)) k d ≡ over_at output places values k
+    behind k d lt low (inl high) =
+        past k d low
+        ∙ get_or_append_left (take c values) (drop (f + c) output) d (k - f) (let e = length-take-le c values (omega arith) in omega arith)
+        ∙ get_or-take c values (k - f) d (omega arith)
+        ∙ get_or_default values (k - f) d None (omega arith)
+        ∙ ap (λ i. get_or values (k - i) None) (let e : f ≡ begin = omega arith in e)
+        ∙ sym (ap (λ o. option_map_or (outcome_at values) o (outcome_at output k)) (found_within k begin (length values) (omega arith) (omega arith)))
+    behind k d lt low (inr high) =
+        past k d low
+        ∙ get_or-append_right (take c values) (drop (f + c) output) c (k - f) d (length-take-le c values (omega arith)) (omega arith)
+        ∙ get_or-drop (f + c) output (k - f - c) d
+        ∙ ap (λ i. get_or output i d) (let e : f + c + (k - f - c) ≡ k = omega arith in e)
+        ∙ outside k d lt (inr (omega arith))
+
+    by : (k : ℕ) (d : Option Elem) → k < length output → (k < f) ⊎ (f ≤ k) → get_or (take f output ++ (take c values ++ drop (f + c) output)) k d ≡ over_at output places values k
+    by k d lt (inl before) =
+        get_or_append_left (take f output) (take c values ++ drop (f + c) output) d k (let e = length-take-le f output (omega arith) in omega arith)
+        ∙ get_or-take f output k d before
+        ∙ outside k d lt (inl (omega arith))
+    by k d lt (inr low) = behind k d lt low (cases_lt k (f + c))
+
+-- elements of another stream stay out
+is_other : (k : ℕ) (p : Place) → p.stream ≢ 1 → is_output_at k p ≡ false
+is_other k p other = ap (λ b. b && (p.position == k)) (ne_eqb p.stream 1 other)
+
+found_on_other : (k stream begin n : ℕ) → stream ≢ 1 → position (is_output_at k) (places_from stream begin n) ≡ None
+found_on_other k stream begin zero other = first_is (is_output_at k) []
+found_on_other k stream begin (suc n) other =
+    position-cons (is_output_at k) (record { stream = stream; position = begin }) (places_from stream (begin + 1) n)
+    ∙ ap (λ b. cond b (Some 0) (option_map suc (position (is_output_at k) (places_from stream (begin + 1) n)))) (is_other k (record { stream = stream; position = begin }) other)
+    ∙ ap (option_map suc) (found_on_other k stream (begin + 1) n other)
+
+pub over_other : (output values : List (Option Elem)) (stream begin n : ℕ) → stream ≢ 1 → output ≡ output_over output (places_from stream begin n) values (length output)
+over_other output values stream begin n other =
+    sym (same_range (over_at output (places_from stream begin n) values) (over_at output [] []) 0 (length output)
+    (λ at low high. ap (λ o. option_map_or (outcome_at values) o (outcome_at output at)) (found_on_other at stream begin n other))
     ∙ over_none output)
 
--- an element that goes elsewhere
-pub over_elsewhere : (output : List (Option Elem)) (p : Place) (v : Option Elem) → (p.stream ≢ 1) ⊎ (length output ≤ p.position)
-    → output ≡ output_over output (p ∷ []) (v ∷ []) (length output)
-over_elsewhere output p v where_to = over_stays output p v (λ at lt. fails at lt (is_output_at at p) refl)
-  where
-    fails : (at : ℕ) → at < length output → (b : Bool) → is_output_at at p ≡ b → is_output_at at p ≡ false
-    fails at lt true e =
-        let parts = and_parts (p.stream == 1) (p.position == at) e in
-        let stream = eqb-true p.stream 1 parts.0 in
-        let position = eqb-true p.position at parts.1 in
-        absurd (by where_to stream position)
-      where
-        by : (p.stream ≢ 1) ⊎ (length output ≤ p.position) → p.stream ≡ 1 → p.position ≡ at → ⊥
-        by (inl other) stream position = other stream
-        by (inr far) stream position = omega arith
-    fails at lt false e = e
+-- how many places the begin stretches have, by the last of them
+pub last_count : (leaves : List Stretch) (left end : ℕ) (d : Stretch) → 0 < left → left ≤ length leaves → end ≡ length (flat_map stretch_places (take left leaves))
+    → end ≡ length (flat_map stretch_places (take (left - 1) leaves)) + (get_or leaves (left - 1) d).count
+last_count leaves left end d some few is =
+    is ∙ ap (λ k. length (flat_map stretch_places (take k leaves))) (let e : left ≡ left - 1 + 1 = omega arith in e) ∙ length_more leaves (left - 1) d (omega arith)
 
--- the last places are put
-pub over_begin : (output : List (Option Elem)) (places : List code.Place) (values : List (Option Elem)) → length values ≡ length places
-    → output ≡ output_over output (map place_of (drop (length places) places)) (drop (length places) values) (length output)
-over_begin output places values as_many =
+-- the last stretches are put
+pub over_begin : (output : List (Option Elem)) (leaves : List Stretch) (values : List (Option Elem))
+    → output ≡ output_over output (flat_map stretch_places (drop (length leaves) leaves)) (drop (length values) values) (length output)
+over_begin output leaves values =
     sym (over_none output)
-    ∙ ap (λ ps. output_over output (map place_of ps) [] (length output)) (sym (drop_all (length places) places (omega arith)))
-    ∙ ap (λ vs. output_over output (map place_of (drop (length places) places)) vs (length output)) (sym (drop_all (length places) values (omega arith)))
+    ∙ ap (λ xs. output_over output (flat_map stretch_places xs) [] (length output)) (sym (drop_all (length leaves) leaves (omega arith)))
+    ∙ ap (λ vs. output_over output (flat_map stretch_places (drop (length leaves) leaves)) vs (length output)) (sym (drop_all (length values) values (omega arith)))
 
 -- and one more in front of them
-pub over_more : (output mid new : List (Option Elem)) (places : List code.Place) (values : List (Option Elem)) (left : ℕ) (d : code.Place) → 0 < left → left ≤ length places
-    → length values ≡ length places
-    → mid ≡ output_over output (map place_of (drop left places)) (drop left values) (length output)
-    → new ≡ output_over mid (place_of (get_or places (left - 1) d) ∷ []) (get_or values (left - 1) None ∷ []) (length mid)
-    → new ≡ output_over output (map place_of (drop (left - 1) places)) (drop (left - 1) values) (length output)
-over_more output mid new places values left d some few as_many before step =
-    let next : suc (left - 1) ≡ left = omega arith in
+pub over_more : (output mid new : List (Option Elem)) (leaves : List Stretch) (values : List (Option Elem)) (left end begin : ℕ) (d : Stretch) → 0 < left → left ≤ length leaves
+    → end ≤ length values → begin + (get_or leaves (left - 1) d).count ≡ end
+    → mid ≡ output_over output (flat_map stretch_places (drop left leaves)) (drop end values) (length output)
+    → new ≡ output_over mid (stretch_places (get_or leaves (left - 1) d)) (between begin end values) (length mid)
+    → new ≡ output_over output (flat_map stretch_places (drop (left - 1) leaves)) (drop begin values) (length output)
+over_more output mid new leaves values left end begin d some few within begins before step =
+    let s : Stretch = get_or leaves (left - 1) d in
+    let rest : List Place = flat_map stretch_places (drop left leaves) in
     let n : length mid ≡ length output =
-    ap length before ∙ length-map-range_with_len (over_at output (map place_of (drop left places)) (drop left values)) 0 (length output) in
-    let ps : drop (left - 1) places ≡ get_or places (left - 1) d ∷ drop left places =
-    drop-cons places (left - 1) d (omega arith) ∙ ap (λ k. get_or places (left - 1) d ∷ drop k places) next in
-    let vs : drop (left - 1) values ≡ get_or values (left - 1) None ∷ drop left values =
-    drop-cons values (left - 1) None (omega arith) ∙ ap (λ k. get_or values (left - 1) None ∷ drop k values) next in
+    ap length before ∙ length-map-range_with_len (over_at output rest (drop end values)) 0 (length output) in
+    let ps : flat_map stretch_places (drop (left - 1) leaves) ≡ stretch_places s ++ rest =
+    places_from_on leaves (left - 1) d (omega arith) ∙ ap (λ k. stretch_places s ++ flat_map stretch_places (drop k leaves)) (let e : left - 1 + 1 ≡ left = omega arith in e) in
+    let vs : drop begin values ≡ between begin end values ++ drop end values =
+    sym (take-append-drop (end - begin) (drop begin values))
+    ∙ ap (λ ws. between begin end values ++ ws) (drop-drop (end - begin) begin values ∙ ap (λ k. drop k values) (let e : begin + (end - begin) ≡ end = omega arith in e)) in
+    let many : length (between begin end values) ≡ length (stretch_places s) =
+    length-between values begin end within ∙ (let e : end - begin ≡ s.count = omega arith in e) ∙ sym (length-places s) in
     step
-    ∙ ap (λ os. output_over os (place_of (get_or places (left - 1) d) ∷ []) (get_or values (left - 1) None ∷ []) (length mid)) before
-    ∙ ap (output_over (output_over output (map place_of (drop left places)) (drop left values) (length output)) (place_of (get_or places (left - 1) d) ∷ []) (get_or values (left - 1) None ∷ [])) n
-    ∙ over_one output (place_of (get_or places (left - 1) d)) (map place_of (drop left places)) (get_or values (left - 1) None) (drop left values) (length output)
-    ∙ ap (λ qs. output_over output (map place_of qs) (get_or values (left - 1) None ∷ drop left values) (length output)) (sym ps)
-    ∙ ap (λ ws. output_over output (map place_of (drop (left - 1) places)) ws (length output)) (sym vs)
+    ∙ ap (λ os. output_over os (stretch_places s) (between begin end values) (length mid)) before
+    ∙ ap (output_over (output_over output rest (drop end values) (length output)) (stretch_places s) (between begin end values)) n
+    ∙ over_both output (stretch_places s) rest (between begin end values) (drop end values) (length output) many
+    ∙ ap (λ qs. output_over output qs (between begin end values ++ drop end values) (length output)) (sym ps)
+    ∙ ap (λ ws. output_over output (flat_map stretch_places (drop (left - 1) leaves)) ws (length output)) (sym vs)

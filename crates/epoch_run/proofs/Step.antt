@@ -36,9 +36,8 @@ use Rattle.flow_core_laws.specs.declared.plan.Plan.{Plan}
 use Rattle.flow_core_laws.specs.declared.task_end.TaskEnd.{TaskEnd}
 use Rattle.os_code.specs.declared.parts.Parts.{Parts}
 use Rattle.stream_match.specs.EpochPlan.{AreFrames}
-use Rattle.stream_match.specs.Kept.{IsKeptOutside, kept_of, place_of}
+use Rattle.stream_match.specs.Kept.{IsKeptOutside, kept_of}
 use Rattle.stream_match.specs.declared.kept.Kept.{Kept}
-use Rattle.stream_match.specs.declared.place.Place.{Place}
 use Rattle.stream_match_layouts.proofs.Sums.{write_total}
 use Rattle.stream_match_layouts.proofs.Tallies.{frame_count-is}
 use Rattle.stream_match_layouts.specs.Lawful.{AreLawful}
@@ -206,14 +205,14 @@ module _ (layout : Layout) (whole : IsLayout layout) (code : Parts) (activations
     pub kept_there : All (λ (k : Kept). k.stream < length layout.writers) held.kept.items
     kept_there = kept_exist layout whole all laid_out frames held.kept.items opens.0
 
-    module _ (plan : Plan) (places : List Place) (stands : StandsForEpoch plan activations input readers frames kept (map place_of places)) where
-      all_stands : StandsForEpoch plan all input readers frames kept (map place_of places)
-      all_stands = subst (λ (xs : List Activation). StandsForEpoch plan xs input readers frames kept (map place_of places)) is.are_all stands
+    module _ (plan : Plan) (places : List streams.Place) (stands : StandsForEpoch plan activations input readers frames kept places) where
+      all_stands : StandsForEpoch plan all input readers frames kept places
+      all_stands = subst (λ (xs : List Activation). StandsForEpoch plan xs input readers frames kept places) is.are_all stands
 
       exist : All (λ f. f < length all) frames
       exist = subst (λ n. All (λ f. f < n) frames) count (all_exist layout frames frames_are)
 
-      pub places_there : All (λ (p : Place). p.stream < length layout.writers) places
+      pub places_there : All (λ (p : streams.Place). p.stream < length layout.writers) places
       places_there = places_exist layout whole all laid_out readers frames places exist all_stands.places_leave
 
       -- so the bodies of activations serve it, which have those among them that have no end
@@ -228,7 +227,7 @@ module _ (layout : Layout) (whole : IsLayout layout) (code : Parts) (activations
         where
           of_all : Serves plan (λ f. frame_outcome code activations budget (slice_index frames f)) (λ f inputs outputs. (f < length frames) × TakesFrame code activations budget (slice_index frames f) inputs outputs)
           of_all =
-              serves_frames plan activations input readers frames kept (map place_of places) (frame_outcome code activations budget) (TakesFrame code activations budget) stands (subst (λ (xs : List Activation). All (λ f. f < length xs) frames) (sym is.are_all) exist) all_served
+              serves_frames plan activations input readers frames kept places (frame_outcome code activations budget) (TakesFrame code activations budget) stands (subst (λ (xs : List Activation). All (λ f. f < length xs) frames) (sym is.are_all) exist) all_served
 
           among : (f : ℕ) → f < length frames → bodies.first ≤ slice_index frames f
           among f lt = by (cases_lt (slice_index frames f) bodies.first)
@@ -256,15 +255,14 @@ module _ (layout : Layout) (whole : IsLayout layout) (code : Parts) (activations
             ∙ length-map (plan_reads plan (length plan.frames)) (plan_element plan (epoch_meaning plan frames (frame_outcome code activations budget)))
             ∙ ap (λ n. length (plan_reads plan n)) stands.frames_are_these
             ∙ ap length stands.sink_is_places
-            ∙ length-map (map place_of places) (epoch.epoch_source activations input frames kept)
-            ∙ length-map places place_of
+            ∙ length-map places (epoch.epoch_source activations input frames kept)
 
         abbrev put : List (Option TaskEnd)
         put = put_over held.ends.ends frames run.ends (length all)
 
         pub held_after : (after : Held) → after.ends.ends ≡ put_over held.ends.ends frames run.ends (frame_count layout)
-            → after.ends.output ≡ output_over held.ends.output (map place_of places) run.output (slice_index layout.writes 1)
-            → map kept_of after.kept.items ≡ carried_over activations (open_in after.ends.ends (frame_count layout)) kept (map place_of places) run.output
+            → after.ends.output ≡ output_over held.ends.output places run.output (slice_index layout.writes 1)
+            → map kept_of after.kept.items ≡ carried_over activations (open_in after.ends.ends (frame_count layout)) kept places run.output
             → after.without_end ≡ open_in after.ends.ends (frame_count layout)
             → IsHeldOf code activations input budget after
         held_after after ends_put output_put carried are_open =
@@ -276,27 +274,27 @@ module _ (layout : Layout) (whole : IsLayout layout) (code : Parts) (activations
             same_body : frame_outcome code activations budget ≡ body
             same_body = ap (λ (xs : List Activation). frame_outcome code xs budget) is.are_all
 
-            ended : IsHeld all input body put (carried_over all (open_in put (length all)) kept (map place_of places) run.output) (output_over held.ends.output (map place_of places) run.output (written_count all 1))
+            ended : IsHeld all input body put (carried_over all (open_in put (length all)) kept places run.output) (output_over held.ends.output places run.output (written_count all 1))
             ended =
-                ends_epoch is.before is.new input body readers frames kept plan (map place_of places) (opens.1 plan (map place_of places) all_stands) held.ends.ends held.ends.output run held_now
+                ends_epoch is.before is.new input body readers frames kept plan places (opens.1 plan places all_stands) held.ends.ends held.ends.output run held_now
                 (ends_are ∙ ap (λ (b : ℕ → List ℤ → Outcome). ends_of (epoch_meaning plan frames b)) same_body)
                 (output_is ∙ ap (λ (b : ℕ → List ℤ → Outcome). sink_elements plan (epoch_meaning plan frames b)) same_body)
 
             e : put ≡ after.ends.ends
             e = ap (put_over held.ends.ends frames run.ends) (sym count) ∙ sym ends_put
 
-            k : carried_over all (open_in put (length all)) kept (map place_of places) run.output ≡ map kept_of after.kept.items
+            k : carried_over all (open_in put (length all)) kept places run.output ≡ map kept_of after.kept.items
             k =
-                ap (λ (es : List (Option TaskEnd)). carried_over all (open_in es (length all)) kept (map place_of places) run.output) e
-                ∙ ap (λ m. carried_over all (open_in after.ends.ends m) kept (map place_of places) run.output) (sym count)
-                ∙ ap (λ (xs : List Activation). carried_over xs (open_in after.ends.ends (frame_count layout)) kept (map place_of places) run.output) (sym is.are_all)
+                ap (λ (es : List (Option TaskEnd)). carried_over all (open_in es (length all)) kept places run.output) e
+                ∙ ap (λ m. carried_over all (open_in after.ends.ends m) kept places run.output) (sym count)
+                ∙ ap (λ (xs : List Activation). carried_over xs (open_in after.ends.ends (frame_count layout)) kept places run.output) (sym is.are_all)
                 ∙ sym carried
 
-            o : output_over held.ends.output (map place_of places) run.output (written_count all 1) ≡ after.ends.output
-            o = ap (output_over held.ends.output (map place_of places) run.output) (sym positions) ∙ sym output_put
+            o : output_over held.ends.output places run.output (written_count all 1) ≡ after.ends.output
+            o = ap (output_over held.ends.output places run.output) (sym positions) ∙ sym output_put
 
             over : IsHeld all input body after.ends.ends (map kept_of after.kept.items) after.ends.output
             over =
                 subst (λ (os : List (Option Elem)). IsHeld all input body after.ends.ends (map kept_of after.kept.items) os) o
-                (subst (λ (ks : List epoch.Kept). IsHeld all input body after.ends.ends ks (output_over held.ends.output (map place_of places) run.output (written_count all 1))) k
-                (subst (λ (es : List (Option TaskEnd)). IsHeld all input body es (carried_over all (open_in put (length all)) kept (map place_of places) run.output) (output_over held.ends.output (map place_of places) run.output (written_count all 1))) e ended))
+                (subst (λ (ks : List epoch.Kept). IsHeld all input body after.ends.ends ks (output_over held.ends.output places run.output (written_count all 1))) k
+                (subst (λ (es : List (Option TaskEnd)). IsHeld all input body es (carried_over all (open_in put (length all)) kept places run.output) (output_over held.ends.output places run.output (written_count all 1))) e ended))

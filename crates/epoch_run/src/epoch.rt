@@ -1,11 +1,14 @@
-ghost use Rattle.std.specs.Prelude.{◌≡◌, ◌<◌, ◌≤◌, IfOk, OnOk, length, map, nat_lt, slice_index};
+ghost use Rattle.std.specs.Prelude.{◌≡◌, ◌+◌, ◌^◌, ◌<◌, ◌≤◌, All, IfOk, OnOk, length, map, nat_lt, slice_index};
+ghost use Rattle.std.specs.List.{flat_map};
 ghost use Rattle.flow_core_laws.specs.IsSound.{IsSound};
 ghost use Rattle.flow_core_laws.specs.Outcome.{ends_of};
 ghost use Rattle.flow_core_laws.specs.Plans.{sink_elements};
 ghost use Rattle.flow_core_laws.specs.Serves.{Serves};
 ghost use Rattle.flow_core_epochs.specs.Epoch.{LeaveOutWaiting, StandsForEpoch, epoch_meaning, open_in};
 ghost use Rattle.os_code.specs.Codes.{parts_of};
-ghost use Rattle.stream_match.specs.Kept.{kept_of, place_of};
+ghost use Rattle.stream_match.specs.Kept.{kept_of};
+ghost use Rattle.stream_match.specs.Stretch.{stretch_places};
+ghost use Rattle.stream_match.specs.declared.stretch.Stretch.{Stretch};
 ghost use Rattle.stream_match_layouts.specs.Layout.{IsLayout};
 ghost use Rattle.stream_match_layouts.specs.Spans.{frame_count};
 ghost use Rattle.epoch_run.specs.Bodies.{HaveOpen, all_of};
@@ -150,7 +153,7 @@ fn run_these<R: Threads + Sync, G: Gate>(
         layout,
         readers,
         frames,
-        epoch.places.as_slice(),
+        epoch.leaves.as_slice(),
         &run,
     )?;
     Ok(())
@@ -171,7 +174,8 @@ fn plan_these(
     requires frames { LeaveOutWaiting (all_of bodies.now) input.now held.now.ends.ends frames.now }
     ensures sound { IfOk result (λ epoch. IsSound epoch.plan) }
     ensures stands { IfOk result (λ epoch. StandsForEpoch epoch.plan (all_of bodies.now) input.now readers.now frames.now (map kept_of held.now.kept.items)
-        (map place_of epoch.places)) }
+        (flat_map stretch_places epoch.leaves)) }
+    ensures small { IfOk result (λ epoch. All (λ (s : Stretch). s.first + s.count < 2 ^ 64) epoch.leaves) }
 {
     run_in_epochs();
     later_activations_change_nothing();

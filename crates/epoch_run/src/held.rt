@@ -1,9 +1,13 @@
-ghost use Rattle.std.specs.Prelude.{◌≡◌, ◌<◌, ◌≤◌, ℕ, [], None, Some, All, List, IfOk, OnOk, length, map, slice_get, slice_index};
+ghost use Rattle.std.specs.Prelude.{◌≡◌, ◌+◌, ◌^◌, ◌<◌, ◌≤◌, ℕ, [], None, Some, All, List, IfOk, OnOk, length, map, slice_get, slice_index};
+ghost use Rattle.std.specs.List.{flat_map};
 ghost use Rattle.flow_core_laws.specs.Outcome.{outcome_at};
+ghost use Rattle.flow_core_laws.specs.Place.{Place};
 ghost use Rattle.flow_core_laws.specs.declared.activation.Activation.{Activation};
 ghost use Rattle.flow_core_epochs.specs.Epoch.{carried_over, open_in, output_over, put_over};
 ghost use Rattle.stream_match.specs.EpochPlan.{AreFrames};
-ghost use Rattle.stream_match.specs.Kept.{kept_of, place_of};
+ghost use Rattle.stream_match.specs.Kept.{kept_of};
+ghost use Rattle.stream_match.specs.Stretch.{stretch_places};
+ghost use Rattle.stream_match.specs.declared.stretch.Stretch.{Stretch};
 ghost use Rattle.stream_match_layouts.specs.Layout.{IsLayout, IsLayoutOf};
 ghost use Rattle.stream_match_layouts.specs.Spans.{frame_count};
 
@@ -14,7 +18,7 @@ use epoch_run_carrying::carry_over;
 use flow_core_laws::Ends;
 use os_io::{List, Memory};
 use std::alloc::Global;
-use stream_match::{Kept, Layout, Place};
+use stream_match::{Kept, Layout, Stretch};
 
 /// What is held between two epochs.
 #[derive(Drop)]
@@ -56,7 +60,7 @@ impl Held {
         layout: &Layout,
         readers: &[u32],
         frames: &[u32],
-        places: &[Place],
+        leaves: &[Stretch],
         run: &Ends,
     ) -> Result<(), Memory>
         requires layout { IsLayout layout.now }
@@ -64,19 +68,20 @@ impl Held {
         requires frames { AreFrames layout.now frames.now }
         requires are_open { (f a : ℕ) → slice_get frames.now f ≡ Some a → outcome_at self.old.ends.ends a ≡ None }
         requires ends_fit { length run.now.ends ≡ length frames.now }
-        requires values_fit { length run.now.output ≡ length places.now }
+        requires values_fit { length run.now.output ≡ length (flat_map stretch_places leaves.now) }
         requires more { length self.old.ends.ends ≤ frame_count layout.now }
         requires longer { length self.old.ends.output ≤ slice_index layout.now.writes 1 }
         requires kept_exist { All (λ k. k.stream < length layout.now.writers) self.old.kept.items }
-        requires places_exist { All (λ p. p.stream < length layout.now.writers) places.now }
+        requires small { All (λ (s : Stretch). s.first + s.count < 2 ^ 64) leaves.now }
+        requires places_exist { All (λ (p : Place). p.stream < length layout.now.writers) (flat_map stretch_places leaves.now) }
         ensures ends { OnOk result (self.new.ends.ends
             ≡ put_over self.old.ends.ends frames.now run.now.ends (frame_count layout.now)) }
         ensures without_end { OnOk result (self.new.without_end ≡ open_in self.new.ends.ends (frame_count layout.now)) }
         ensures output { OnOk result (self.new.ends.output
-            ≡ output_over self.old.ends.output (map place_of places.now) run.now.output (slice_index layout.now.writes 1)) }
+            ≡ output_over self.old.ends.output (flat_map stretch_places leaves.now) run.now.output (slice_index layout.now.writes 1)) }
         ensures kept { OnOk result ((activations : List Activation) → IsLayoutOf layout.now activations
             → map kept_of self.new.kept.items ≡ carried_over activations (open_in self.new.ends.ends (frame_count layout.now))
-            (map kept_of self.old.kept.items) (map place_of places.now) run.now.output) }
+            (map kept_of self.old.kept.items) (flat_map stretch_places leaves.now) run.now.output) }
     {
         take_ends(
             &mut self.ends.ends,
@@ -88,7 +93,7 @@ impl Held {
         take_output(
             &mut self.ends.output,
             positions,
-            places,
+            leaves,
             run.output.as_slice(),
         )?;
         self.without_end = still_open(alloc, readers, self.ends.ends.as_slice())?;
@@ -97,7 +102,7 @@ impl Held {
             layout,
             self.without_end.as_slice(),
             &mut self.kept,
-            places,
+            leaves,
             run.output.as_slice(),
         )?;
         Ok(())

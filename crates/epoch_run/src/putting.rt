@@ -1,14 +1,19 @@
 //! What an epoch came to, put over what was before.
 
-ghost use Rattle.std.specs.Prelude.{◌≡◌, ◌<◌, ◌≤◌, ℕ, [], ◌∷◌, OnOk, Some, length, map, slice_get};
+ghost use Rattle.std.specs.Prelude.{◌≡◌, ◌<◌, ◌≤◌, ℕ, OnOk, Some, length, slice_get};
+ghost use Rattle.std.specs.List.{flat_map};
 ghost use Rattle.flow_core_laws.specs.Outcome.{outcome_at};
 ghost use Rattle.flow_core_epochs.specs.Epoch.{output_over, put_over};
-ghost use Rattle.stream_match.specs.Kept.{place_of};
+ghost use Rattle.flow_core_laws.specs.Place.{places_from};
+ghost use Rattle.stream_match.specs.Stretch.{stretch_places};
 
 use flow_core_epochs::put_over;
 use flow_core_laws::{Elem, TaskEnd};
 use os_io::{List, Memory};
-use stream_match::Place;
+use stream_match::Stretch;
+
+/// The largest power of two.
+const MOST_ROOM: usize = 1 << 63;
 
 /// Puts the ends of an epoch's frames over those of so many activations.
 pub(crate) fn take_ends(
@@ -28,19 +33,20 @@ pub(crate) fn take_ends(
     Ok(())
 }
 
-/// Puts the elements that left an epoch at their positions of the output, of which there are so many.
+/// Puts the elements that left an epoch at their positions of the output, of which there are so many. The elements are those of
+/// the first stretch, then those of the second, and so on.
 pub(crate) fn take_output(
     output: &mut List<Option<Elem>>,
     count: usize,
-    places: &[Place],
+    leaves: &[Stretch],
     values: &[Option<Elem>],
 ) -> Result<(), Memory>
     requires longer { length output.old ≤ count }
-    requires fit { length values.now ≡ length places.now }
-    ensures { OnOk result (output.new ≡ output_over output.old (map place_of places.now) values.now count) }
+    requires fit { length values.now ≡ length (flat_map stretch_places leaves.now) }
+    ensures { OnOk result (output.new ≡ output_over output.old (flat_map stretch_places leaves.now) values.now count) }
 {
     grow(output, count)?;
-    put_output(output.as_mut_slice(), places, values);
+    put_output(output.as_mut_slice(), leaves, values);
     Ok(())
 }
 
@@ -60,32 +66,43 @@ fn grow<T: Drop>(list: &mut List<Option<T>>, count: usize) -> Result<(), Memory>
 /// How many items a list that grows to so many is to have room for: so it has twice as many at most, and just so many where
 /// that is a power of two.
 fn room_for(count: usize) -> usize {
-    let mut room: usize = 1;
-    for _ in 0..usize::BITS {
-        if room < count {
-            room = room.saturating_mul(2);
-        }
+    if count > MOST_ROOM {
+        return count;
     }
-    room
+    count.next_power_of_two()
 }
 
-/// Puts the elements that left an epoch at their positions of the output, the last one first.
-fn put_output(output: &mut [Option<Elem>], places: &[Place], values: &[Option<Elem>])
-    requires { length values.now ≡ length places.now }
-    ensures { output.new ≡ output_over output.old (map place_of places.now) values.now (length output.old) }
+/// Puts the elements that left an epoch at their positions of the output, the last stretch first.
+fn put_output(output: &mut [Option<Elem>], leaves: &[Stretch], values: &[Option<Elem>])
+    requires { length values.now ≡ length (flat_map stretch_places leaves.now) }
+    ensures { output.new ≡ output_over output.old (flat_map stretch_places leaves.now) values.now (length output.old) }
 {
-    let mut left = places.len();
+    let mut left = leaves.len();
+    let mut end = values.len();
     'putting: while left > 0 {
         left -= 1;
-        put_one(output, places[left], values[left]);
+        let leaving = leaves[left];
+        let first = end - leaving.count as usize;
+        put_stretch(output, leaving, &values[first..end]);
+        end = first;
     }
 }
 
-/// Puts the element at a place at its position of the output, if it is of the output.
-fn put_one(output: &mut [Option<Elem>], place: Place, value: Option<Elem>)
-    ensures { output.new ≡ output_over output.old (place_of place ∷ []) (value ∷ []) (length output.old) }
+/// Puts the elements of a stretch at their positions of the output, if they are of the output.
+fn put_stretch(output: &mut [Option<Elem>], leaving: Stretch, values: &[Option<Elem>])
+    requires { length values.now ≡ leaving.count }
+    ensures { output.new ≡ output_over output.old (stretch_places leaving) values.now (length output.old) }
 {
-    if place.stream == 1 && place.position < output.len() as u64 {
-        output[place.position as usize] = value;
+    if leaving.stream == 1 {
+        put_from(output, leaving.first, values);
     }
+}
+
+/// Puts elements at the positions from a first one on, as far as there are such.
+fn put_from(output: &mut [Option<Elem>], first: u64, values: &[Option<Elem>])
+    ensures { output.new ≡ output_over output.old (places_from 1 first (length values.now)) values.now (length output.old) }
+{
+    let first = first.min(output.len() as u64) as usize;
+    let count = values.len().min(output.len() - first);
+    output[first..first + count].copy_from_slice(&values[..count]);
 }

@@ -1,7 +1,9 @@
 use Rattle.std.proofs.Common.{List, map, subst, sym}
+use Rattle.std.specs.List.{flat_map}
 use Rattle.flow_core_epochs.specs.Epoch.{IsOutside, StandsForEpoch}
 use Rattle.os_code.specs.Codes.{parts_of}
-use Rattle.stream_match.specs.Kept.{IsKeptOutside, kept_of, place_of}
+use Rattle.stream_match.specs.Kept.{IsKeptOutside, kept_of}
+use Rattle.stream_match.specs.Stretch.{stretch_places}
 use Rattle.stream_match.specs.declared.kept.Kept.{Kept}
 use Rattle.epoch_run.specs.Bodies.{all_of}
 use Rattle.epoch_run.proofs.Step.{frames_are, kept_outside, outside, readers_exist}
@@ -35,7 +37,7 @@ returns-clause-stands c =
     let activations = all_of c.args.bodies.now in
     let beside = outside c.args.layout.now o.whole (parts_of c.args.bodies.now.code.now) activations c.args.input.now c.args.bodies.now.budgets.task
     c.args.held.now o.stands o.laid o.lawful c.args.readers.now c.args.frames.now c.requires.readers c.requires.frames c.later_activations_change_nothing.ensures c.run_in_epochs.ensures.begins in
-    subst (λ (ks : List Kept). StandsForEpoch c.in_ok-epoch.epoch.plan activations c.args.input.now c.args.readers.now c.args.frames.now (map kept_of ks) (map place_of c.in_ok-epoch.epoch.places))
+    subst (λ (ks : List Kept). StandsForEpoch c.in_ok-epoch.epoch.plan activations c.args.input.now c.args.readers.now c.args.frames.now (map kept_of ks) (flat_map stretch_places c.in_ok-epoch.epoch.leaves))
     c.as_slice.ensures.value
     (c.in_ok-epoch.ensures.stands_for activations o.laid
     (subst (λ (ks : List Kept). IsOutside activations c.args.frames.now (map kept_of ks)) (sym c.as_slice.ensures.value) beside))

@@ -1,10 +1,12 @@
 use Rattle.std.proofs.Common.{All, ◌≡◌, ◌<◌, ◌∙◌, List, ℕ, ap, map, refl, subst, sym}
 use Rattle.std.specs.Prelude.{Option, filter, is_none}
+use Rattle.std.specs.List.{flat_map}
 use Rattle.flow_core_epochs.specs.Epoch.{carried_over, open_in, put_over}
 use Rattle.flow_core_laws.specs.Outcome.{outcome_at}
 use Rattle.flow_core_laws.specs.declared.elem.Elem.{Elem}
 use Rattle.flow_core_laws.specs.declared.task_end.TaskEnd.{TaskEnd}
-use Rattle.stream_match.specs.Kept.{kept_of, place_of}
+use Rattle.stream_match.specs.Kept.{kept_of}
+use Rattle.stream_match.specs.Stretch.{stretch_places}
 use Rattle.stream_match_layouts.specs.Spans.{frame_count}
 use Rattle.epoch_run.proofs.Frames.{all_exist, are_frames, frames_differ}
 use Rattle.epoch_run.proofs.Listing.{still_listed}
@@ -52,8 +54,8 @@ returns-clause-kept c = λ activations of.
     c.in_ok-self.ensures ∙ ap (λ (es : List (Option TaskEnd)). filter (λ a. is_none (outcome_at es a)) readers) c.as_slice-4.ensures
     ∙ still_listed old frames c.args.run.now.ends after readers count c.requires.are_open c.requires.readers put in
     c.in_ok-carry_over.ensures activations of
-    ∙ ap (λ (fs : List ℕ). carried_over activations fs (map kept_of c.args.self.now.kept.items) (map place_of c.args.places.now) c.as_slice-6.result.now) (c.as_slice-5.ensures ∙ is)
-    ∙ ap (λ (vs : List (Option Elem)). carried_over activations (open_in after count) (map kept_of c.args.self.now.kept.items) (map place_of c.args.places.now) vs) c.as_slice-6.ensures
+    ∙ ap (λ (fs : List ℕ). carried_over activations fs (map kept_of c.args.self.now.kept.items) (flat_map stretch_places c.args.leaves.now) c.as_slice-6.result.now) (c.as_slice-5.ensures ∙ is)
+    ∙ ap (λ (vs : List (Option Elem)). carried_over activations (open_in after count) (map kept_of c.args.self.now.kept.items) (flat_map stretch_places c.args.leaves.now) vs) c.as_slice-6.ensures
 
 pub take_ends-requires-clause-differ : goal.take_ends-requires-clause-differ
 take_ends-requires-clause-differ c = frames_differ c.args.layout.now c.args.frames.now c.requires.frames
