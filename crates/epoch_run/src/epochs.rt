@@ -9,6 +9,7 @@ ghost use Rattle.epoch_run.specs.Run.{AreBudgets, created};
 
 use crate::held::Held;
 use crate::result::{Budgets, RunResult};
+use crate::room::keep_room_in_place;
 use crate::size::EpochSize;
 use crate::standing::Standing;
 use os_code::Code;
@@ -78,6 +79,9 @@ pub fn run_epochs_of<R: Threads + Sync, G: Gate>(
     ensures fit { IfOk result (λ run. All (Fits (parts_of code.now)) (created (parts_of code.now) input.now budgets)) }
     ensures lawful { IfOk result (λ run. AreLawful code.now.streams (created (parts_of code.now) input.now budgets)) }
 {
+    if workers > 1 {
+        keep_room_in_place(alloc);
+    }
     let mut run = Standing::new(alloc, code, input, budgets)?;
     let end = 'epochs: loop {
         let next = size.with_waiting(run.held.without_end.len());

@@ -23,6 +23,7 @@ mod pace;
 mod plan;
 mod putting;
 mod result;
+mod room;
 mod size;
 mod standing;
 mod unended;

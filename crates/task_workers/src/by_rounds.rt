@@ -12,7 +12,7 @@ use std::thread::Threads;
 use task_workers_round::{Gate, Results, hire, most_outputs, run_alone};
 
 /// Runs a plan round by round on so many workers, 1 to 64. The frames of a round that may run are given
-/// to the workers by halves of their list, and what they came to is delivered before the next round.
+/// to the workers by parts of their list, and what they came to is delivered before the next round.
 /// A round of few frames gets few of the workers, and one of a single frame starts no thread; where no
 /// thread can be made, the caller does the work. One worker runs frame by frame in the same order, with no rounds. All memory
 /// but that of threads is taken before the first frame runs.

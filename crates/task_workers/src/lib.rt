@@ -3,7 +3,7 @@
 //! `execute` runs a plan over one table of atomic words, in which workers claim frames, give their outputs and open
 //! others, all at once: `task_workers_worker` has one of them, `work`, and `task_workers_crew` several. `execute_rounds`
 //! runs a plan round by round: the frames of a round that may run are given to the workers of `task_workers_round` by
-//! halves of their list, and what they came to is delivered to the board of the run before the next round begins. One worker
+//! parts of their list, and what they came to is delivered to the board of the run before the next round begins. One worker
 //! runs frame by frame.
 //!
 //! What both promise is the plan's meaning, whatever the number of workers. A `Gate` is where a test may hold a worker

@@ -1,6 +1,6 @@
 //! The frames of one round of a plan, run by several workers.
 //!
-//! `run_by` halves the workers and the list of frames until each worker has a part of its own. Each half
+//! `run_by` splits the workers and the list of frames until each worker has a part of its own. Each part
 //! is run in a thread, and what its frames come to goes into a stretch of the ends and of the outputs
 //! that nobody else has. `hire` makes the workers, and `Results` the room. A `Gate` is where a test may
 //! hold a worker. What is promised, `AreResults` in `specs/Results`, says nothing of workers.

@@ -1,0 +1,12 @@
+use std::alloc::Global;
+
+/// How many bytes the block has: about what an epoch of several workers takes at once.
+const BLOCK: usize = 8 * 1024 * 1024;
+
+/// Takes a large block of memory, and gives it back without a touch. What an epoch takes is given back after it, and the next one takes
+/// as much again: an allocator that learns from a block how much comes and goes keeps so much in place from then on, and no
+/// epoch waits for the system to hand out the same pages anew. Where there is no such block, nothing is lost.
+pub(crate) fn keep_room_in_place(alloc: Global) {
+    let mut block: Vec<u8> = Vec::new(alloc);
+    let _taken = block.reserve(BLOCK);
+}
