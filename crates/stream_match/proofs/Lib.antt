@@ -20,3 +20,4 @@ pub mod EpochRows
 pub mod EpochMade
 pub mod EpochTop
 pub mod Whole
+pub mod Nothing
