@@ -12,7 +12,8 @@ use std::alloc::Global;
 use stream_match::{Kept, Layout, Place, read_cursors};
 
 /// Leaves of the elements that were kept for an epoch what is carried over from it, where it leaves some frames open, by a layout
-/// of all activations so far, and adds what is carried over of those that left it. After `Memory` any of them may be missing.
+/// of all activations so far, and adds what is carried over of those that left it: with nothing kept and nothing that left it looks
+/// at no activation. After `Memory` any of them may be missing.
 pub fn carry_over(
     alloc: Global,
     layout: &Layout,
@@ -29,6 +30,9 @@ pub fn carry_over(
     ensures { OnOk result ((activations : List Activation) → IsLayoutOf layout.now activations
         → map kept_of kept.new.items ≡ carried_over activations open_frames.now (map kept_of kept.old.items) (map place_of places.now) values.now) }
 {
+    if kept.is_empty() && places.is_empty() {
+        return Ok(());
+    }
     let cursors = read_cursors(alloc, layout, open_frames)?;
     carry(cursors.as_slice(), kept, places, values)?;
     Ok(())
