@@ -106,7 +106,8 @@ fn create(
 /// How many elements the windows of activations have, from one of them on, as far as the number goes.
 fn elements_from(activations: &[Activation], first: usize) -> u64 {
     let mut elements: u64 = 0;
-    for activation in activations.iter().skip(first) {
+    let (_, last) = activations.split_at(first.min(activations.len()));
+    for activation in last {
         for claim in activation.claims.as_slice() {
             elements = elements.saturating_add(u64::from(claim.horizon));
         }

@@ -17,7 +17,8 @@ use stream_match::{Kept, Layout, Stretch, read_cursors};
 
 /// Leaves of the elements that were kept for an epoch what is carried over from it, where it leaves some frames open, by a layout
 /// of all activations so far, and adds what is carried over of those that left it: the values are those of the first stretch,
-/// then those of the second, and so on. After `Memory` any of them may be missing.
+/// then those of the second, and so on. With nothing kept and nothing that left it looks at no activation. After `Memory` any of
+/// them may be missing.
 pub fn carry_over(
     alloc: Global,
     layout: &Layout,
@@ -36,6 +37,9 @@ pub fn carry_over(
         → map kept_of kept.new.items
         ≡ carried_over activations open_frames.now (map kept_of kept.old.items) (flat_map stretch_places leaves.now) values.now) }
 {
+    if kept.is_empty() && leaves.is_empty() {
+        return Ok(());
+    }
     let cursors = read_cursors(alloc, layout, open_frames)?;
     carry(cursors.as_slice(), kept, leaves, values)?;
     Ok(())

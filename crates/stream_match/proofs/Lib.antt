@@ -22,3 +22,4 @@ pub mod EpochRows
 pub mod EpochMade
 pub mod EpochTop
 pub mod Whole
+pub mod Nothing

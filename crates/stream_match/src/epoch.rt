@@ -1,8 +1,10 @@
-ghost use Rattle.std.specs.Prelude.{◌≡◌, ◌+◌, ◌++◌, ◌^◌, ◌<◌, All, List, IfOk, length, map};
-ghost use Rattle.std.specs.List.{flat_map};
+ghost use Rattle.std.specs.Prelude.{◌≡◌, ℕ, [], ◌+◌, ◌++◌, ◌^◌, ◌<◌, All, List, IfOk, length, map};
+ghost use Rattle.std.specs.List.{flat_map, range_with_len};
 ghost use Rattle.flow_core_laws.specs.declared.activation.Activation.{Activation};
 ghost use Rattle.flow_core_laws.specs.IsSound.{IsSound};
-ghost use Rattle.flow_core_epochs.specs.Epoch.{IsOutside, StandsForEpoch};
+ghost use Rattle.flow_core_epochs.specs.Epoch as epoch;
+ghost use Rattle.flow_core_epochs.specs.Epoch.{IsOutside, StandsForEpoch, read_from};
+ghost use Rattle.stream_match_layouts.specs.declared.layout.Layout.{Layout};
 ghost use Rattle.stream_match.specs.declared.stretch.Stretch.{Stretch};
 ghost use Rattle.stream_match_layouts.specs.Layout.{IsLayout, IsLayoutOf};
 ghost use Rattle.stream_match_layouts.specs.Spans.{frame_count};
@@ -17,7 +19,7 @@ use crate::look_up::sorted;
 use crate::reaching::{Left, leaving, reading};
 use crate::stretch::Stretch;
 use crate::woven::weave_rows;
-use flow_core_laws::Plan;
+use flow_core_laws::{FramePlan, Plan};
 use os_io::{List, Memory};
 use std::alloc::Global;
 use stream_match_layouts::Layout;
@@ -80,17 +82,67 @@ pub fn build_ready(
     ensures small { IfOk result (λ epoch. All (λ (s : Stretch). s.first + s.count < 2 ^ 64) epoch.leaves) }
     ensures adds_up { IfOk result (λ epoch. GoesOnFor layout.now input.now readers.now frames.now (map kept_of kept.now) epoch.plan) }
 {
-    let cursors = read_cursors(alloc, layout, readers)?;
     let kept = sorted(alloc, kept)?;
-    let epoch = weave(
-        alloc,
-        layout,
-        frames,
-        cursors.as_slice(),
-        kept.as_slice(),
-        input,
-    )?;
+    let epoch = plan_of(alloc, layout, readers, frames, kept.as_slice(), input)?;
     Ok(epoch)
+}
+
+/// The plan of an epoch, by the kept elements by their places. Where it has no frames, what is read decides nothing.
+fn plan_of(
+    alloc: Global,
+    layout: &Layout,
+    readers: &[u32],
+    frames: &[u32],
+    kept: &[Kept],
+    input: &[u8],
+) -> Result<EpochPlan, Memory>
+    requires layout { IsLayout layout.now }
+    requires readers { All (λ f. f < frame_count layout.now) readers.now }
+    requires frames { AreFrames layout.now frames.now }
+    requires kept { AreSorted kept.now }
+    requires outside { (activations : List Activation) × IsLayoutOf layout.now activations
+        × WrittenOutside activations frames.now (map kept_of kept.now) }
+    ensures frames { IfOk result (λ epoch. epoch.frames ≡ frames.now) }
+    ensures small { IfOk result (λ epoch. All (λ (s : Stretch). s.first + s.count < 2 ^ 64) epoch.leaves) }
+    ensures plan { IfOk result (λ epoch. (activations : List Activation) → IsLayoutOf layout.now activations
+        → IsEpochPlanOf layout.now input.now frames.now (map kept_of kept.now)
+        (map (read_from activations readers.now) (range_with_len 0 (length layout.now.writers))) epoch.plan (flat_map stretch_places epoch.leaves)) }
+{
+    if frames.is_empty() {
+        return Ok(nothing(alloc));
+    }
+    let cursors = read_cursors(alloc, layout, readers)?;
+    let epoch = weave(alloc, layout, frames, cursors.as_slice(), kept, input)?;
+    Ok(epoch)
+}
+
+/// The plan of an epoch with no frames.
+fn nothing(alloc: Global) -> EpochPlan
+    ensures frames { result.frames ≡ [] }
+    ensures small { All (λ (s : Stretch). s.first + s.count < 2 ^ 64) result.leaves }
+    ensures plan { (layout : Layout) (input : List ℕ) (kept : List epoch.Kept) (cursors : List ℕ)
+        → IsEpochPlanOf layout input [] kept cursors result.plan (flat_map stretch_places result.leaves) }
+{
+    let sink = FramePlan {
+        cell: 0,
+        inputs: 0,
+        outputs: 0,
+        wait: 0,
+        piece: 0,
+        pieces: 0,
+    };
+    let plan = Plan {
+        frames: List::new(alloc),
+        sink,
+        pieces: List::new(alloc),
+        filled: List::new(alloc),
+        numbers: List::new(alloc),
+    };
+    EpochPlan {
+        plan,
+        frames: List::new(alloc),
+        leaves: List::new(alloc),
+    }
 }
 
 /// The plan of an epoch, by the cursors of its streams and the kept elements by their places.
