@@ -1,6 +1,7 @@
 ghost use Rattle.std.specs.Prelude.{◌≡◌, ◌<◌, ◌≤◌, ◌*◌, ◌++◌, ◌==◌, All, IfOk, OnOk, codes, if◌then◌else◌, length};
 ghost use Rattle.osview_steps.specs.Counting.{IsSmall};
-ghost use Rattle.osview_steps.specs.Lines.{all_line, counts_text, longest_line, main_line, range_text, share_text, speed_line, step_count, steps_lines, turns_text};
+ghost use Rattle.osview_steps.specs.Lines.{all_line, counts_text, longest_line, main_line, range_text, share_text, speed_line};
+ghost use Rattle.osview_steps.specs.Lines.{step_count, steps_lines, turns_text};
 ghost use Rattle.collector.specs.Line.{line};
 ghost use Rattle.osview_steps.specs.Told.{tally_line, tally_text};
 ghost use Rattle.osview_steps.specs.declared.runs.TaskRun.{TaskRun as Run};
