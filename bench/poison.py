@@ -2,7 +2,8 @@
 """What runs take whose activations are poisoned, as a table: of 1,024 to 65,536 activations, by 1 and 4 workers, the milliseconds of the
 quickest of five runs and, by 1 worker, the machine instructions an activation of the whole program, where valgrind is there. One
 activation fails and all others are poisoned by it; beside that the same where it doesn't fail and all are done. In a chain each reads
-what the one created before it wrote, in a chain backwards what the one created behind it wrote, and in a fan all read the same element.
+what the one created before it wrote, in a chain backwards what the one created behind it wrote, on one stream or (`streams`) each on a
+stream of its own, and in a fan all read the same element.
 Each report is compared with the one written here. ./build has to have built the program."""
 import os
 import re
@@ -28,6 +29,19 @@ CHAIN = """int main(void) {
 """
 
 BACKWARDS = """int main(void) {
+    int s __attribute__((stream));
+    int i, x, y;
+    #pragma omp tick(s >> 1)
+    for (i = 1; i < COUNT; i++) {
+        #pragma omp task input(s >> x) output(s << y)
+        y = x;
+    }
+    #pragma omp task output(s << y)
+    y = 1 / DIVISOR;
+}
+"""
+
+STREAMS = """int main(void) {
     int s[COUNT] __attribute__((stream));
     int i, x, y;
     for (i = 1; i < COUNT; i++) {
@@ -53,10 +67,10 @@ FAN = """int main(void) {
 
 
 def report(text, count, fails):
-    """The report of a run of one of the programs, by hand: the activation that fails is the last one of the chain backwards alone."""
+    """The report of a run of one of the programs, by hand: the activation that fails is the last one of the chains backwards alone."""
     if not fails:
         return "control done\noutput 0 of 0\n"
-    root = count - 1 if text == BACKWARDS else 0
+    root = count - 1 if text in (BACKWARDS, STREAMS) else 0
     line = next(number for number, line in enumerate(text.split("\n"), 1) if "DIVISOR" in line)
     lines = [f"poisoned {number} by {root}" for number in range(count)]
     lines[root] = f"trapped {root} code 2 line {line}"
@@ -92,7 +106,7 @@ def main():
     with tempfile.TemporaryDirectory() as folder:
         program, nothing = f"{folder}/program.c", f"{folder}/nothing"
         open(nothing, "w", encoding="utf-8").close()
-        for name, text in ("chain", CHAIN), ("backwards", BACKWARDS), ("fan", FAN):
+        for name, text in ("chain", CHAIN), ("backwards", BACKWARDS), ("streams", STREAMS), ("fan", FAN):
             for count in 1024, 4096, 16384, 65536:
                 for workers in 1, 4:
                     row = f"{name:<10} {count:>11} {workers:>7}"
