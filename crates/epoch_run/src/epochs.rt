@@ -79,9 +79,7 @@ pub fn run_epochs_of<R: Threads + Sync, G: Gate>(
     ensures fit { IfOk result (λ run. All (Fits (parts_of code.now)) (created (parts_of code.now) input.now budgets)) }
     ensures lawful { IfOk result (λ run. AreLawful code.now.streams (created (parts_of code.now) input.now budgets)) }
 {
-    if workers > 1 {
-        keep_room_in_place(alloc);
-    }
+    keep_room_in_place(alloc, workers);
     let mut run = Standing::new(alloc, code, input, budgets)?;
     let end = 'epochs: loop {
         let next = size.with_waiting(run.held.without_end.len());

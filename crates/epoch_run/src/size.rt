@@ -7,6 +7,9 @@ const ACTIVATIONS: u32 = 1024;
 /// since their cells, and what they write, are held at once.
 const ELEMENTS: u64 = 16_384;
 
+/// How many they may have where one worker runs the epoch: it starts no thread for it, so that a small epoch costs little.
+const ELEMENTS_ALONE: u64 = 8_192;
+
 /// For how many workers an epoch has a share. More of them share what these have.
 const SHARES: u32 = 4;
 
@@ -36,7 +39,7 @@ impl EpochSize {
         let shares = workers.min(SHARES);
         EpochSize {
             activations: shares * ACTIVATIONS,
-            elements: u64::from(shares) * ELEMENTS,
+            elements: elements_for(shares),
             stretch: STRETCH,
             growth: SHARES / shares,
         }
@@ -55,5 +58,14 @@ impl EpochSize {
             elements: self.elements.saturating_mul(u64::from(times)),
             ..self
         }
+    }
+}
+
+/// How many elements an epoch of so many shares may have.
+fn elements_for(shares: u32) -> u64 {
+    if shares == 1 {
+        ELEMENTS_ALONE
+    } else {
+        u64::from(shares) * ELEMENTS
     }
 }
