@@ -15,5 +15,6 @@ returns-in_err-span c = λ activations of.
 
 pub returns : goal.returns
 returns c = λ activations of.
-    ap (option_map (λ (s : Span). s.frame)) c.in_ok-span.ensures
+    ap Some c.from.ensures
+    ∙ ap (option_map (λ (s : Span). s.frame)) c.in_ok-span.ensures
     ∙ frame_by_number c.args.layout.now activations of c.args.stream c.args.position (Some c.in_ok-number.number) (c.in_ok-number.ensures activations of)
