@@ -6,7 +6,7 @@ ghost use Rattle.osrun_core_jobs.specs.Jobs.{Exec as ExecRequest, IsExecWithin, 
 use os_code::Code;
 use os_io::Files;
 use osrun_core_jobs::{ExecJob, Refusal, Subject, load};
-use osrun_core_run::{Run, accept_object, run_code};
+use osrun_core_run::{Run, accept_object, run_code_over};
 use std::alloc::Global;
 use std::thread::Threads;
 use task_workers::Gate;
@@ -36,6 +36,6 @@ pub fn make_exec<R: Threads + Sync, F: Files, G: Gate>(
 {
     let code = read_object(alloc, files, job.object)?;
     let input = load(alloc, files, job.input, Subject::Input)?;
-    let run = run_code(rt, alloc, job.terms, &code, &input, gate)?;
+    let run = run_code_over(rt, alloc, job.terms, &code, input, gate)?;
     Ok(run)
 }

@@ -5,7 +5,7 @@ ghost use Rattle.osrun_core_answer.specs.Made.{MakesRun, ReadsProgram};
 
 use os_io::Files;
 use osrun_core_jobs::{Job, Refusal, Subject, load};
-use osrun_core_run::{Run, accept, run_program};
+use osrun_core_run::{Run, accept, run_program_over};
 use std::alloc::Global;
 use std::thread::Threads;
 use task_workers::Gate;
@@ -36,6 +36,6 @@ pub fn make_run<R: Threads + Sync, F: Files, G: Gate>(
 {
     let checked = read_program(alloc, files, job.program)?;
     let input = load(alloc, files, job.input, Subject::Input)?;
-    let run = run_program(rt, alloc, job.terms, &checked, &input, gate)?;
+    let run = run_program_over(rt, alloc, job.terms, &checked, input, gate)?;
     Ok(run)
 }

@@ -41,3 +41,33 @@ pub fn run_code<R: Threads + Sync, G: Gate>(
         control,
     })
 }
+
+/// Runs a code over an input as `run_code` does, and gives the input up once all activations have ended: the bytes of the output are
+/// collected in the memory that it had.
+pub fn run_code_over<R: Threads + Sync, G: Gate>(
+    rt: &R,
+    alloc: Global,
+    terms: Terms,
+    code: &Code,
+    input: Vec<u8>,
+    gate: &G,
+) -> Result<Run, Memory>
+    requires within { AreTerms terms }
+    requires few { length input.items ≤ 4194304 }
+    ensures run { IfOk result (λ run. IsRunOfCode terms.task_budget terms.control_budget
+        (parts_of code.now) input.items run.output.items run.layout run.ends run.control) }
+{
+    let RunResult {
+        layout,
+        ends,
+        control,
+    } = run_in_epochs(rt, alloc, terms, code, &input, gate)?;
+    drop(input);
+    let output = output_bytes(alloc, &ends)?;
+    Ok(Run {
+        output,
+        layout,
+        ends,
+        control,
+    })
+}

@@ -5,7 +5,7 @@
 //! report tells: the code is run in epochs (`epoch_run`), and the output's bytes are collected. What comes of it is the data-flow
 //! meaning of the activations, where the machine runs the task of each. `run_program` compiles a program and runs its code. What
 //! comes of it is the control-driven data-flow meaning of the program over the input, for every program, input and number of
-//! workers.
+//! workers. `run_code_over` and `run_program_over` do the same over an input that they give up before the bytes are collected.
 //!
 //! `trace_program` does what `run_program` does over one table, with one plan of all activations, and tells which activations each
 //! worker ran; `trace_code` does so for a code. `accept_trace` has such lists of a trace's bytes, and `replay_program` runs a program
@@ -39,10 +39,10 @@ mod tracing;
 pub use accepting::accept;
 pub use accepting_object::accept_object;
 pub use accepting_trace::accept_trace;
-pub use code_run::run_code;
+pub use code_run::{run_code, run_code_over};
 pub use code_trace::{Traced, trace_code};
 pub use compiling::compile;
 pub use made::Run;
 pub use replaying::{Replay, replay_program};
-pub use running::run_program;
+pub use running::{run_program, run_program_over};
 pub use tracing::trace_program;

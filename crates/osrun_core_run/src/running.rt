@@ -2,7 +2,7 @@ ghost use Rattle.std.specs.Prelude.{◌≤◌, length, IfOk};
 ghost use Rattle.os_ast.specs.Views.{program_tree};
 ghost use Rattle.osrun_core_run.specs.RunOf.{AreTerms, IsRunOf};
 
-use crate::code_run::run_code;
+use crate::code_run::{run_code, run_code_over};
 use crate::compiling::compile;
 use crate::made::Run;
 use epoch_run_bodies::laws::agreeing_bodies_mean_one;
@@ -30,5 +30,25 @@ pub fn run_program<R: Threads + Sync, G: Gate>(
     agreeing_bodies_mean_one();
     let code = compile(alloc, checked)?;
     let run = run_code(rt, alloc, terms, &code, input, gate)?;
+    Ok(run)
+}
+
+/// Runs a program over an input as `run_program` does, and gives the input up before the bytes of the output are collected.
+pub fn run_program_over<R: Threads + Sync, G: Gate>(
+    rt: &R,
+    alloc: Global,
+    terms: Terms,
+    checked: &Checked,
+    input: Vec<u8>,
+    gate: &G,
+) -> Result<Run, Memory>
+    requires within { AreTerms terms }
+    requires few { length input.items ≤ 4194304 }
+    ensures run { IfOk result (λ run. IsRunOf terms.task_budget terms.control_budget
+        (program_tree checked.now.program) input.items run.output.items run.layout run.ends run.control) }
+{
+    agreeing_bodies_mean_one();
+    let code = compile(alloc, checked)?;
+    let run = run_code_over(rt, alloc, terms, &code, input, gate)?;
     Ok(run)
 }

@@ -1,11 +1,10 @@
-use Rattle.std.proofs.Common.{[], ◌∷◌, subst}
+use Rattle.std.proofs.Common.{[], ◌∷◌}
 use Rattle.std.proofs.lemmas.Result.{err_from_is_err_and}
 use Rattle.os_code.specs.Codes.{parts_of}
 use Rattle.osrun_core_answer.proofs.Loaded.{not_loaded, opened_so, was_read}
 use Rattle.osrun_core_answer.proofs.MadeRun.{both_read, cause_of_first, cause_of_second, input_file, may_open_first, may_open_second, memory_wanted, object_file}
 use Rattle.osrun_core_jobs.specs.Jobs.{exec_of}
 use Rattle.osrun_core_jobs.specs.declared.subject.Subject.TheVariants as subjects
-use Rattle.osrun_core_run.specs.RunOf.{IsRunOfCode}
 use Rattle.osrun_core_answer.proofs.make_exec.make_exec.Goals as goal
 
 pub read_object-requires : goal.read_object-requires
@@ -62,5 +61,5 @@ returns g c =
           (was_read g.F.Files between new subjects.Input c.args.job.now.input.now input l.loaded tt l.opens l.no_fault l.holds l.may);
       code = code;
       is_object = was.2;
-      is_run = subst (λ bytes. IsRunOfCode job.task_budget job.control_budget code bytes run.output.items run.layout run.ends run.control) c.deref.ensures.value c.in_ok-run.ensures.run;
+      is_run = c.in_ok-run.ensures.run;
     }
