@@ -21,7 +21,7 @@ use std::alloc::Global;
 
 /// `stmt`
 #[cycle(statements)]
-#[tactic(auto, using(os_parser_grammar::proofs::Depths::readers, os_parser_expressions::proofs::Trees::trees), unfolding(os_parser_grammar::specs::Statements::stmt_on, os_parser_grammar::specs::Statements::stmt_by))]
+#[tactic(auto, using(crate::proofs::Stmts::stmts), unfolding(os_parser_grammar::specs::Statements::stmt_on, os_parser_grammar::specs::Statements::stmt_by))]
 pub(crate) fn stmt(
     alloc: Global,
     cursor: &mut Cursor<'_>,
