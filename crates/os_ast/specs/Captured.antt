@@ -1,5 +1,5 @@
 -- The scalars that a task captures.
-use Rattle.std.specs.Prelude.{ℕ, ◌==◌, if◌then◌else◌, List, [], ◌∷◌, ◌++◌, map}
+use Rattle.std.specs.Prelude.{ℕ, ◌==◌, if◌then◌else◌, List, [], ◌∷◌, ◌++◌, map, filter}
 use Rattle.os_ast.specs.FreeNames.{task_names}
 use Rattle.os_ast.specs.ClauseParts.{ClausePart, is_in}
 use Rattle.os_ast.specs.Trees as tree
@@ -31,8 +31,7 @@ scalars (e ∷ es) = others e.id (scalars es) ++ scalar_of e.id e.entity
 
 -- those whose name is among some
 abbrev pub among : List ℕ → List Scalar → List Scalar
-among ids [] = []
-among ids (c ∷ cs) = if is_in c.id ids then c ∷ among ids cs else among ids cs
+among ids cs = filter (λ (c : Scalar). is_in c.id ids) cs
 
 -- What a task with these clauses and this body captures, by what is in scope round it: the scalars of the control
 -- program that `firstprivate` lists, or that the body names and doesn't declare. The sizes of its arrays count for

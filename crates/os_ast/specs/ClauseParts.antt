@@ -1,5 +1,7 @@
 -- The clauses of a task, part by part.
-use Rattle.std.specs.Prelude.{ℕ, suc, ◌==◌, ◌||◌, Bool, false, List, [], ◌∷◌, ◌++◌, map, Option, Some, None}
+use Rattle.std.specs.Prelude.{ℕ, suc, ◌==◌, Bool, List, [], ◌∷◌, map, Option}
+use Rattle.std.specs.List.{flat_map, list_any}
+use Rattle.std.specs.Option.{option_map_or}
 use Rattle.os_ast.specs.Trees as tree
 use Rattle.os_ast.specs.declared.expr.Name.{Name}
 use Rattle.os_ast.specs.declared.names.Direction.{Direction}
@@ -16,8 +18,7 @@ parts_of (tree.Output items) = map (Item direction.Writes) items
 parts_of (tree.Firstprivate ns) = map Private ns
 
 abbrev pub parts : List tree.ClauseTree → List ClausePart
-parts [] = []
-parts (c ∷ cs) = parts_of c.kind ++ parts cs
+parts cs = flat_map (λ (c : tree.ClauseTree). parts_of c.kind) cs
 
 abbrev pub target_name : tree.TargetTree → Name
 target_name (tree.Variable n) = n
@@ -25,8 +26,7 @@ target_name (tree.Element n m e) = n
 
 -- the name of an item in the task's body: its window's or scalar's, or the stream's where that stands alone
 abbrev pub item_name : tree.TargetTree → Option tree.JoinTree → Name
-item_name stream None = target_name stream
-item_name stream (Some j) = j.name
+item_name stream j = option_map_or (λ (j : tree.JoinTree). j.name) j (target_name stream)
 
 abbrev pub part_name : ClausePart → Name
 part_name (Item d i) = item_name i.stream i.window
@@ -51,5 +51,4 @@ private_ids (Item d i ∷ ps) = private_ids ps
 private_ids (Private n ∷ ps) = n.id ∷ private_ids ps
 
 abbrev pub is_in : ℕ → List ℕ → Bool
-is_in id [] = false
-is_in id (i ∷ is) = (i == id) || is_in id is
+is_in id ids = list_any (λ i. i == id) ids

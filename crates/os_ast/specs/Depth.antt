@@ -13,14 +13,13 @@ deepest depth (x ∷ xs) = max (depth x) (deepest depth xs)
 -- of the expressions in it, and 1 where there are none.
 abbrev mutual
   pub expr_depth : tree.ExprTree → ℕ
-  expr_depth (tree.Number n) = 1
-  expr_depth (tree.Wide n) = 1
   expr_depth (tree.Place t) = 1 + target_depth t
   expr_depth (tree.ExprTree.Call f args) = 1 + args_depth args
   expr_depth (tree.Paren e) = 1 + expr_depth e
   expr_depth (tree.Unary op m e) = 1 + expr_depth e
   expr_depth (tree.Chain l first links) = max (expr_depth first) (links_depth links)
   expr_depth (tree.Choice c a b) = max (expr_depth c) (1 + max (expr_depth a) (expr_depth b))
+  expr_depth _ = 1
 
   -- the depth of the index, and 0 without one
   pub target_depth : tree.TargetTree → ℕ
@@ -75,7 +74,6 @@ clause_depth c = clause_kind_depth c.kind
 -- targets, declarators, heads and clause items, and 1 where there are none.
 abbrev mutual
   pub stmt_depth : tree.StmtTree → ℕ
-  stmt_depth tree.StmtTree.Empty = 1
   stmt_depth (tree.Block stmts) = 1 + stmts_depth stmts
   stmt_depth (tree.StmtTree.Declare ty ds) = 1 + deepest declarator_depth ds
   stmt_depth (tree.StmtTree.Change c) = 1 + change_depth c
@@ -83,14 +81,11 @@ abbrev mutual
   stmt_depth (tree.If c a) = 1 + max (expr_depth c) (stmt_depth a)
   stmt_depth (tree.IfElse c a b) = 1 + max (expr_depth c) (max (stmt_depth a) (stmt_depth b))
   stmt_depth (tree.While c s) = 1 + max (expr_depth c) (stmt_depth s)
-  stmt_depth (tree.For start test step s) =
-      1 + max (max (start_depth start) (max (value_depth test) (step_depth step))) (stmt_depth s)
-  stmt_depth (tree.Break m) = 1
-  stmt_depth (tree.Continue m) = 1
+  stmt_depth (tree.For start test step s) = 1 + max (max (start_depth start) (max (value_depth test) (step_depth step))) (stmt_depth s)
   stmt_depth (tree.Return m e) = 1 + expr_depth e
   stmt_depth (tree.Task m clauses s) = 1 + max (deepest clause_depth clauses) (stmt_depth s)
   stmt_depth (tree.Tick m t a e) = 1 + max (target_depth t) (expr_depth e)
-  stmt_depth (tree.Taskwait m) = 1
+  stmt_depth _ = 1
 
   -- the greatest depth of the statements, and 0 without any
   pub stmts_depth : tree.Stmts → ℕ

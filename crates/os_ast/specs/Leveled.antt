@@ -21,11 +21,7 @@ abbrev pub level : tree.ExprTree → ℕ
 level (tree.Choice c a b) = 0
 level (tree.Chain l first links) = precedence l
 level (tree.Unary op m e) = 11
-level (tree.Number n) = 12
-level (tree.Wide n) = 12
-level (tree.Place t) = 12
-level (tree.ExprTree.Call f args) = 12
-level (tree.Paren e) = 12
+level _ = 12
 
 mutual
   -- Expressions (C11, 6.5). The operands of a chain are of higher levels, that of a unary is a unary or
@@ -33,8 +29,7 @@ mutual
   pub data IsExpr : tree.ExprTree → Type 0 where
     choice : {c a b : tree.ExprTree} → IsExpr c → 0 < level c → IsExpr a → IsExpr b → IsExpr (tree.Choice c a b)
     chain : {l : Level} {first e : tree.ExprTree} {op : Binary} {m : Mark} {rest : tree.Links} →
-        IsExpr first → precedence l < level first → AreLinks l (tree.link op m e rest) →
-        IsExpr (tree.Chain l first (tree.link op m e rest))
+        IsExpr first → precedence l < level first → AreLinks l (tree.link op m e rest) → IsExpr (tree.Chain l first (tree.link op m e rest))
     unary : {op : operator.Unary} {m : Mark} {e : tree.ExprTree} → IsExpr e → 11 ≤ level e → IsExpr (tree.Unary op m e)
     number : {n : ℕ} → n < 2 ^ 31 → IsExpr (tree.Number n)
     wide : {n : ℕ} → n < 2 ^ 32 → IsExpr (tree.Wide n)
@@ -82,8 +77,7 @@ pub data IsIndex : tree.IndexTree → Type 0 where
 pub data IsDeclarator : tree.DeclaratorTree → Type 0 where
   scalar : {n : Name} {first : Option tree.ExprTree} → IsOptional IsExpr first →
       IsDeclarator (record { name = n; size = None; stream = false; first = first })
-  sized : {n : Name} {size : tree.IndexTree} → IsIndex size →
-      IsDeclarator (record { name = n; size = Some size; stream = false; first = None })
+  sized : {n : Name} {size : tree.IndexTree} → IsIndex size → IsDeclarator (record { name = n; size = Some size; stream = false; first = None })
   stream : {n : Name} {size : Option tree.IndexTree} → IsOptional IsIndex size →
       IsDeclarator (record { name = n; size = size; stream = true; first = None })
 
@@ -94,8 +88,7 @@ pub data IsHeadDeclarator : tree.DeclaratorTree → Type 0 where
 
 -- change = target assign expr | target ( "++" | "--" ) | ( "++" | "--" ) target
 pub data IsChange : tree.ChangeTree → Type 0 where
-  set : {t : tree.TargetTree} {a : Assign} {m : Mark} {e : tree.ExprTree} →
-      IsTarget t → IsAssign a → IsExpr e → IsChange (tree.Set t a m e)
+  set : {t : tree.TargetTree} {a : Assign} {m : Mark} {e : tree.ExprTree} → IsTarget t → IsAssign a → IsExpr e → IsChange (tree.Set t a m e)
   after : {t : tree.TargetTree} {s : Step} {m : Mark} → IsTarget t → IsChange (tree.After t s m)
   before : {t : tree.TargetTree} {s : Step} {m : Mark} → IsTarget t → IsChange (tree.Before t s m)
 
@@ -109,8 +102,7 @@ pub data IsStart : tree.StartTree → Type 0 where
 -- A name alone has no index.
 pub data IsClauseItem : tree.ClauseItemTree → Type 0 where
   joined : {t : tree.TargetTree} {m : Mark} {n : Name} {burst : Option tree.IndexTree} →
-      IsTarget t → IsOptional IsIndex burst →
-      IsClauseItem (record { stream = t; window = Some (record { mark = m; name = n; burst = burst }) })
+      IsTarget t → IsOptional IsIndex burst → IsClauseItem (record { stream = t; window = Some (record { mark = m; name = n; burst = burst }) })
   alone : {n : Name} → IsClauseItem (record { stream = tree.Variable n; window = None })
 
 -- clause = "input" "(" in { "," in } ")" | "output" "(" out { "," out } ")"
@@ -138,16 +130,7 @@ takes_else (tree.IfElse c a b) = takes_else b
 takes_else (tree.While c s) = takes_else s
 takes_else (tree.For start test step s) = takes_else s
 takes_else (tree.Task m cs s) = takes_else s
-takes_else tree.StmtTree.Empty = false
-takes_else (tree.Block ss) = false
-takes_else (tree.StmtTree.Declare t ds) = false
-takes_else (tree.StmtTree.Change c) = false
-takes_else (tree.StmtTree.Call f args) = false
-takes_else (tree.Break m) = false
-takes_else (tree.Continue m) = false
-takes_else (tree.Return m e) = false
-takes_else (tree.Tick m t a e) = false
-takes_else (tree.Taskwait m) = false
+takes_else _ = false
 
 mutual
   -- Statements (C11, 6.8). A declaration is no statement. No `if` without `else` ends the first branch of an
@@ -158,8 +141,7 @@ mutual
     change : {c : tree.ChangeTree} → IsChange c → IsStmt (tree.StmtTree.Change c)
     call : {f : Name} {args : tree.Args} → AreArgs args → IsStmt (tree.StmtTree.Call f args)
     if_alone : {c : tree.ExprTree} {a : tree.StmtTree} → IsExpr c → IsStmt a → IsStmt (tree.If c a)
-    if_else : {c : tree.ExprTree} {a b : tree.StmtTree} →
-        IsExpr c → IsStmt a → takes_else a ≡ false → IsStmt b → IsStmt (tree.IfElse c a b)
+    if_else : {c : tree.ExprTree} {a b : tree.StmtTree} → IsExpr c → IsStmt a → takes_else a ≡ false → IsStmt b → IsStmt (tree.IfElse c a b)
     while : {c : tree.ExprTree} {s : tree.StmtTree} → IsExpr c → IsStmt s → IsStmt (tree.While c s)
     for : {start : tree.StartTree} {test : Option tree.ExprTree} {step : Option tree.ChangeTree} {s : tree.StmtTree} →
         IsStart start → IsOptional IsExpr test → IsOptional IsChange step → IsStmt s → IsStmt (tree.For start test step s)
@@ -167,8 +149,7 @@ mutual
     continue : {m : Mark} → IsStmt (tree.Continue m)
     return : {m : Mark} {e : tree.ExprTree} → IsExpr e → IsStmt (tree.Return m e)
     task : {m : Mark} {cs : List tree.ClauseTree} {s : tree.StmtTree} → AreClauses cs → IsStmt s → IsStmt (tree.Task m cs s)
-    tick : {m : Mark} {t : tree.TargetTree} {a : Mark} {e : tree.ExprTree} →
-        IsTarget t → IsExpr e → IsStmt (tree.Tick m t a e)
+    tick : {m : Mark} {t : tree.TargetTree} {a : Mark} {e : tree.ExprTree} → IsTarget t → IsExpr e → IsStmt (tree.Tick m t a e)
     taskwait : {m : Mark} → IsStmt (tree.Taskwait m)
 
   -- a declaration stands directly in a block

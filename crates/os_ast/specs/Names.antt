@@ -1,5 +1,6 @@
 -- What names mean: declarations, scopes, and what is in scope at a place.
 use Rattle.std.specs.Prelude.{ℕ, ◌+◌, ◌==◌, Bool, true, false, if◌then◌else◌, List, [], ◌∷◌, Option, Some, None, ℤ, pos, neg_ℤ, ◌^◌, unsigned_abs}
+use Rattle.std.specs.Option.{option_map, option_map_or}
 use Rattle.std.specs.Int.{w32, cast_signed, int_rem_euclid}
 -- the numbers that the lexer gives the names which a program doesn't declare, or that mean more than others
 pub use Rattle.os_lexer.specs.Names.{main_id, osin_id, osout_id, osin_len_id}
@@ -40,17 +41,14 @@ lookup (e ∷ es) id = if e.id == id then Some e else lookup es id
 
 -- what a name is declared as where it stands
 abbrev pub entity_of : Option Entry → Option Entity
-entity_of None = None
-entity_of (Some e) = Some e.entity
+entity_of e = option_map (λ (e : Entry). e.entity) e
 
 -- whether what a name is declared as where it stands is of the type `unsigned`
 abbrev pub flag_of : Option Entry → Bool
-flag_of None = false
-flag_of (Some e) = e.unsigned
+flag_of e = option_map_or (λ (e : Entry). e.unsigned) e false
 
 abbrev pub stands_at : ℕ → Option Entry → Bool
-stands_at depth None = false
-stands_at depth (Some e) = e.depth == depth
+stands_at depth e = option_map_or (λ (e : Entry). e.depth == depth) e false
 
 -- a name is declared already in the innermost scope
 abbrev pub is_declared : Scope → ℕ → Bool
@@ -77,8 +75,7 @@ leave outer inner = record inner { entries = outer.entries; depth = outer.depth;
 
 -- Behind the body of a function or a task all is as round it, but what the body took of the program stays taken.
 abbrev pub after_unit : Scope → Scope → Scope
-after_unit outer inner =
-    record (leave outer inner) { owner = outer.owner; captured = outer.captured; slots = outer.slots; elements = outer.elements }
+after_unit outer inner = record (leave outer inner) { owner = outer.owner; captured = outer.captured; slots = outer.slots; elements = outer.elements }
 
 -- inside a loop
 abbrev pub in_loop : Scope → Scope

@@ -58,9 +58,8 @@ level_of binary.ShiftLeft = level.Shift
 level_of binary.ShiftRight = level.Shift
 level_of binary.Add = level.Sum
 level_of binary.Subtract = level.Sum
-level_of binary.Multiply = level.Product
-level_of binary.Divide = level.Product
-level_of binary.Remainder = level.Product
+-- `*` `/` `%`
+level_of _ = level.Product
 
 -- The levels of chains by number. A choice is at 0, a unary at 11, and a number, a target, a call or
 -- parentheses at 12. A higher number binds closer.
@@ -97,17 +96,9 @@ pub data IsAssign : Assign → Type 0 where
 -- The mark of an assigning form. An operator without one keeps its own mark, and no program that means
 -- something holds it.
 abbrev pub assigning_mark : Binary → Punct
-assigning_mark binary.Or = punct.Or
-assigning_mark binary.And = punct.And
 assigning_mark binary.BitOr = punct.BitOrSet
 assigning_mark binary.BitXor = punct.BitXorSet
 assigning_mark binary.BitAnd = punct.BitAndSet
-assigning_mark binary.Equal = punct.Equal
-assigning_mark binary.Unequal = punct.Unequal
-assigning_mark binary.Less = punct.Less
-assigning_mark binary.LessEqual = punct.LessEqual
-assigning_mark binary.Greater = punct.Greater
-assigning_mark binary.GreaterEqual = punct.GreaterEqual
 assigning_mark binary.ShiftLeft = punct.ShiftLeftSet
 assigning_mark binary.ShiftRight = punct.ShiftRightSet
 assigning_mark binary.Add = punct.AddSet
@@ -115,6 +106,7 @@ assigning_mark binary.Subtract = punct.SubtractSet
 assigning_mark binary.Multiply = punct.MultiplySet
 assigning_mark binary.Divide = punct.DivideSet
 assigning_mark binary.Remainder = punct.RemainderSet
+assigning_mark op = binary_mark op
 
 abbrev pub assign_mark : Assign → Punct
 assign_mark assign.Plain = punct.Set

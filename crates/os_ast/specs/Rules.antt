@@ -1,6 +1,8 @@
 -- The rules, one after another by their codes, over what stands at a token. A token violates a rule where its test is
 -- true. 23 is a rule for the whole program, and stands with the violations.
-use Rattle.std.specs.Prelude.{ℕ, ◌==◌, ◌&&◌, ◌||◌, Bool, true, false, not, ltb, List, [], ◌∷◌, ◌++◌, length, Option, Some, None, is_none, ℤ}
+use Rattle.std.specs.Prelude.{ℕ, ◌==◌, ◌&&◌, ◌||◌, Bool, true, false, not, ltb, List, [], ◌∷◌, length, Option, is_none, ℤ}
+use Rattle.std.specs.List.{flat_map}
+use Rattle.std.specs.Option.{option_map_or}
 use Rattle.os_ast.specs.Limits.{is_size, elements_limit, arrays_limit, streams_limit, items_limit, captured_limit}
 use Rattle.os_ast.specs.Names.{Scope, lookup, entity_of, is_declared, main_id}
 use Rattle.os_ast.specs.Notes.Declarators.{form, size_told, after_declarator}
@@ -26,8 +28,7 @@ abbrev pub UseRule : Type 0
 UseRule = ℕ → Use → Entity → Bool
 
 abbrev pub if_declared : (Entity → Bool) → Option Entity → Bool
-if_declared test None = false
-if_declared test (Some e) = test e
+if_declared test e = option_map_or test e false
 
 -- what stands at a token is a used name, which violates such a rule
 abbrev pub violates : UseRule → Note → Bool
@@ -88,12 +89,11 @@ has_wrong_shape s e = (is_single e && has_index s) || (is_array e && not (has_in
 
 -- 11: a name of the wrong kind
 abbrev pub is_wrong_kind : UseRule
--- a function that isn't called; a local array, a view or an array of streams without an index; a scalar, an element, a
--- constant or a single stream with one
-is_wrong_kind id (usage.Place role.Value s) e = is_function e || has_wrong_shape s e
-is_wrong_kind id (usage.Place role.Changed s) e = is_function e || has_wrong_shape s e
 -- the stream of an item or a tick is no stream, or has an index where it is single, or none where it is an array
 is_wrong_kind id (usage.Place (role.Flow d) s) e = not (is_stream e) || has_wrong_shape s e
+-- elsewhere: a function that isn't called; a local array, a view or an array of streams without an index; a scalar, an element,
+-- a constant or a single stream with one
+is_wrong_kind id (usage.Place r s) e = is_function e || has_wrong_shape s e
 -- a call of what is no function, or of `main`
 is_wrong_kind id (usage.Called args) e = not (is_function e) || (id == main_id)
 -- what stands behind an arrow is neither a scalar of the control program nor a window; there a scalar has a burst, or a
@@ -157,13 +157,11 @@ is_outside_a_loop _ = false
 -- directly in the outermost block of `main`, whose scope stands in the one that holds `osin`, in that of the file
 abbrev pub is_outermost : Owner → ℕ → Bool
 is_outermost owner.OfMain depth = depth == 2
-is_outermost owner.OfFunction depth = false
-is_outermost owner.OfTask depth = false
+is_outermost _ depth = false
 
 abbrev pub is_main_body : Owner → Bool
 is_main_body owner.OfMain = true
-is_main_body owner.OfFunction = false
-is_main_body owner.OfTask = false
+is_main_body _ = false
 
 -- 17: a pragma outside `main` or inside a task; a stream anywhere but directly in the outermost block of `main`
 abbrev pub is_misplaced : Note → Bool
@@ -174,8 +172,7 @@ is_misplaced _ = false
 
 abbrev pub is_task_body : Owner → Bool
 is_task_body owner.OfTask = true
-is_task_body owner.OfMain = false
-is_task_body owner.OfFunction = false
+is_task_body _ = false
 
 -- 18: `return` in a task
 abbrev pub returns_from_a_task : Note → Bool
@@ -184,12 +181,9 @@ returns_from_a_task _ = false
 
 -- 19: a stream is named where it is neither that of an item or a tick nor changed, which is 14
 abbrev pub is_misplaced_stream : UseRule
-is_misplaced_stream id (usage.Place role.Value s) e = is_stream e
 is_misplaced_stream id (usage.Place role.Changed s) e = false
 is_misplaced_stream id (usage.Place (role.Flow d) s) e = false
-is_misplaced_stream id (usage.Called args) e = is_stream e
-is_misplaced_stream id (usage.Joined s) e = is_stream e
-is_misplaced_stream id usage.Private e = is_stream e
+is_misplaced_stream id u e = is_stream e
 
 -- 20: `osin`, which is stream 0, as the stream of an output item; `osout`, which is stream 1, as that of an input item
 -- or a tick
@@ -214,10 +208,8 @@ takes_too_much _ = false
 
 -- 24: a window is named outside an item's window
 abbrev pub is_misplaced_window : UseRule
-is_misplaced_window id (usage.Place r s) e = is_a_window e
-is_misplaced_window id (usage.Called args) e = is_a_window e
 is_misplaced_window id (usage.Joined s) e = false
-is_misplaced_window id usage.Private e = is_a_window e
+is_misplaced_window id u e = is_a_window e
 
 -- the rule, where it is violated
 abbrev pub when : Bool → Rule → List Rule
@@ -235,25 +227,16 @@ test r is_violated = record { rule = r; is_violated = is_violated }
 -- all rules for what stands at a token
 abbrev pub rules : List RuleTest
 rules =
-    test rule.Unknown is_unknown
-    ∷ test rule.WrongKind (violates is_wrong_kind)
-    ∷ test rule.DeclaredTwice is_declared_twice
-    ∷ test rule.ArgumentCount (violates has_other_count)
-    ∷ test rule.FixedChanged (violates is_changed)
-    ∷ test rule.WrongSize has_wrong_size
-    ∷ test rule.OutsideLoop is_outside_a_loop
-    ∷ test rule.Misplaced is_misplaced
-    ∷ test rule.ReturnInTask returns_from_a_task
-    ∷ test rule.MisplacedStream (violates is_misplaced_stream)
-    ∷ test rule.WrongEnd (violates is_wrong_end)
-    ∷ test rule.ListedTwice is_listed_twice
-    ∷ test rule.TaskLimit takes_too_much
-    ∷ test rule.MisplacedWindow (violates is_misplaced_window)
-    ∷ []
+    test rule.Unknown is_unknown ∷ test rule.WrongKind (violates is_wrong_kind) ∷
+    test rule.DeclaredTwice is_declared_twice ∷ test rule.ArgumentCount (violates has_other_count) ∷
+    test rule.FixedChanged (violates is_changed) ∷ test rule.WrongSize has_wrong_size ∷
+    test rule.OutsideLoop is_outside_a_loop ∷ test rule.Misplaced is_misplaced ∷
+    test rule.ReturnInTask returns_from_a_task ∷ test rule.MisplacedStream (violates is_misplaced_stream) ∷
+    test rule.WrongEnd (violates is_wrong_end) ∷ test rule.ListedTwice is_listed_twice ∷
+    test rule.TaskLimit takes_too_much ∷ test rule.MisplacedWindow (violates is_misplaced_window) ∷ []
 
 abbrev pub broken_among : List RuleTest → Note → List Rule
-broken_among [] n = []
-broken_among (t ∷ ts) n = when (t.is_violated n) t.rule ++ broken_among ts n
+broken_among ts n = flat_map (λ (t : RuleTest). when (t.is_violated n) t.rule) ts
 
 -- the rules that what stands at a token violates
 abbrev pub broken : Note → List Rule

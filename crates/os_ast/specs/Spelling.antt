@@ -1,6 +1,7 @@
 -- The tokens that spell a program, production by production. The smallest parts come first, since each
 -- definition stands on those above it; the alternatives of a production keep its order.
-use Rattle.std.specs.Prelude.{ℕ, Bool, true, false, List, [], ◌∷◌, Option, Some, None, map}
+use Rattle.std.specs.Prelude.{ℕ, Bool, true, false, List, [], ◌∷◌, Option, map}
+use Rattle.std.specs.Option.{option_map_or}
 use Rattle.os_ast.specs.Operators.{unary_mark, binary_mark, assign_mark, step_mark}
 use Rattle.os_ast.specs.Trees as tree
 use Rattle.os_ast.specs.declared.expr.Mark.{Mark}
@@ -85,35 +86,13 @@ word n = token (kind.Name n)
 abbrev pub omp : Printer
 omp = word omp_id
 
-abbrev pub task_word : Printer
-task_word = word task_id
-
-abbrev pub tick_word : Printer
-tick_word = word tick_id
-
-abbrev pub taskwait_word : Printer
-taskwait_word = word taskwait_id
-
-abbrev pub input_word : Printer
-input_word = word input_id
-
-abbrev pub output_word : Printer
-output_word = word output_id
-
-abbrev pub firstprivate_word : Printer
-firstprivate_word = word firstprivate_id
-
-abbrev pub stream_word : Printer
-stream_word = word stream_id
-
 -- "(" part ")"
 abbrev pub in_parens : Printer → Printer
 in_parens p = punct puncts.OpenParen ⨾ p ⨾ punct puncts.CloseParen
 
 -- [ part ]
 abbrev pub optional : {A : Type 0} → (A → Printer) → Option A → Printer
-optional part None = nothing
-optional part (Some x) = part x
+optional part x = option_map_or part x nothing
 
 -- { part }
 abbrev pub each : {A : Type 0} → (A → Printer) → List A → Printer
@@ -182,7 +161,7 @@ first_value e = punct puncts.Set ⨾ expr e
 -- "__attribute__" "(" "(" "stream" ")" ")"
 abbrev pub attribute : Bool → Printer
 attribute false = nothing
-attribute true = key keys.Attribute ⨾ in_parens (in_parens stream_word)
+attribute true = key keys.Attribute ⨾ in_parens (in_parens (word stream_id))
 
 -- declr = name [ "=" expr ] | name "[" expr "]"
 --       | name [ "[" expr "]" ] "__attribute__" "(" "(" "stream" ")" ")"
@@ -223,9 +202,9 @@ clause_item arrow i = target i.stream ⨾ optional (join arrow) i.window
 -- clause = "input" "(" in { "," in } ")" | "output" "(" out { "," out } ")"
 --        | "firstprivate" "(" name { "," name } ")"
 abbrev pub clause_kind : tree.ClauseKindTree → Printer
-clause_kind (tree.Input items) = input_word ⨾ in_parens (listed (clause_item puncts.ShiftRight) items)
-clause_kind (tree.Output items) = output_word ⨾ in_parens (listed (clause_item puncts.ShiftLeft) items)
-clause_kind (tree.Firstprivate names) = firstprivate_word ⨾ in_parens (listed name names)
+clause_kind (tree.Input items) = word input_id ⨾ in_parens (listed (clause_item puncts.ShiftRight) items)
+clause_kind (tree.Output items) = word output_id ⨾ in_parens (listed (clause_item puncts.ShiftLeft) items)
+clause_kind (tree.Firstprivate names) = word firstprivate_id ⨾ in_parens (listed name names)
 
 -- [ "," ]
 abbrev pub comma : Bool → Printer
@@ -259,15 +238,14 @@ abbrev mutual
   stmt (tree.If c a) = key keys.If ⨾ in_parens (expr c) ⨾ stmt a
   stmt (tree.IfElse c a b) = key keys.If ⨾ in_parens (expr c) ⨾ stmt a ⨾ key keys.Else ⨾ stmt b
   stmt (tree.While c s) = key keys.While ⨾ in_parens (expr c) ⨾ stmt s
-  stmt (tree.For st test step s) =
-      key keys.For ⨾ in_parens (start st ⨾ optional expr test ⨾ punct puncts.Semicolon ⨾ optional change step) ⨾ stmt s
+  stmt (tree.For st test step s) = key keys.For ⨾ in_parens (start st ⨾ optional expr test ⨾ punct puncts.Semicolon ⨾ optional change step) ⨾ stmt s
   stmt (tree.Break m) = key_at keys.Break m ⨾ punct puncts.Semicolon
   stmt (tree.Continue m) = key_at keys.Continue m ⨾ punct puncts.Semicolon
   stmt (tree.Return m e) = key_at keys.Return m ⨾ expr e ⨾ punct puncts.Semicolon
-  stmt (tree.Task m clauses s) = pragma m ⨾ omp ⨾ task_word ⨾ each clause clauses ⨾ token kind.PragmaEnd ⨾ stmt s
+  stmt (tree.Task m clauses s) = pragma m ⨾ omp ⨾ word task_id ⨾ each clause clauses ⨾ token kind.PragmaEnd ⨾ stmt s
   stmt (tree.Tick m t arrow e) =
-      pragma m ⨾ omp ⨾ tick_word ⨾ in_parens (target t ⨾ punct_at puncts.ShiftRight arrow ⨾ expr e) ⨾ token kind.PragmaEnd
-  stmt (tree.Taskwait m) = pragma m ⨾ omp ⨾ taskwait_word ⨾ token kind.PragmaEnd
+      pragma m ⨾ omp ⨾ word tick_id ⨾ in_parens (target t ⨾ punct_at puncts.ShiftRight arrow ⨾ expr e) ⨾ token kind.PragmaEnd
+  stmt (tree.Taskwait m) = pragma m ⨾ omp ⨾ word taskwait_id ⨾ token kind.PragmaEnd
   stmt (tree.StmtTree.Declare t ds) = declare t ds
 
   -- { declare | stmt }
@@ -287,8 +265,7 @@ numeral true n = wide n
 
 -- constant = "const" type name "=" [ "-" ] number ";"
 abbrev pub constant : Constant → Printer
-constant c =
-    key keys.Const ⨾ type_words c.ty ⨾ name c.name ⨾ punct puncts.Set ⨾ sign c.minus ⨾ numeral c.wide c.size ⨾ punct puncts.Semicolon
+constant c = key keys.Const ⨾ type_words c.ty ⨾ name c.name ⨾ punct puncts.Set ⨾ sign c.minus ⨾ numeral c.wide c.size ⨾ punct puncts.Semicolon
 
 -- type name
 abbrev pub param : Param → Printer
@@ -303,8 +280,7 @@ params (params_of.Names ps) = listed param ps
 -- function = type name "(" [ params ] ")" block
 -- block    = "{" { declare | stmt } "}"
 abbrev pub function : tree.FunctionTree → Printer
-function f =
-    type_words f.ty ⨾ name f.name ⨾ in_parens (params f.params) ⨾ punct puncts.OpenBrace ⨾ stmts f.body ⨾ punct puncts.CloseBrace
+function f = type_words f.ty ⨾ name f.name ⨾ in_parens (params f.params) ⨾ punct puncts.OpenBrace ⨾ stmts f.body ⨾ punct puncts.CloseBrace
 
 -- constant | function
 abbrev pub item : tree.ItemTree → Printer

@@ -6,5 +6,4 @@ use Rattle.os_ast.specs.declared.ty.Ty.TheVariants as ty
 -- `unsigned` and `unsigned int` are one type
 abbrev pub is_unsigned : Ty → Bool
 is_unsigned ty.Int = false
-is_unsigned ty.Unsigned = true
-is_unsigned ty.UnsignedInt = true
+is_unsigned _ = true

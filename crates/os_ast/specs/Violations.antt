@@ -1,6 +1,7 @@
 -- The violations of a program, its refusal, and what its names mean where there is none.
-use Rattle.std.specs.Prelude.{◌≡◌, ℕ, ◌+◌, ◌<◌, ◌≤◌, ◌==◌, ◌&&◌, ◌||◌, Bool, true, false, not, List, []}
-use Rattle.std.specs.Prelude.{◌∷◌, ◌++◌, length, All, Contains, if◌then◌else◌, Option, Some, None, ℤ}
+use Rattle.std.specs.Prelude.{◌≡◌, ℕ, ◌+◌, ◌<◌, ◌≤◌, ◌==◌, ◌&&◌, Bool, true, false, not, List, []}
+use Rattle.std.specs.Prelude.{◌∷◌, ◌++◌, length, map, All, Contains, if◌then◌else◌, Option, Some, None, ℤ}
+use Rattle.std.specs.List.{flat_map, list_any}
 use Rattle.os_ast.specs.Captured.{slots_of}
 use Rattle.os_ast.specs.Codes.{code}
 use Rattle.os_ast.specs.Meanings.{meaning, meaning_in, resolved}
@@ -29,13 +30,11 @@ violated place r line = record { place = place; rule = r; line = line }
 
 -- the violations of one token
 abbrev pub violations_at : Mark → List Rule → List Violation
-violations_at m [] = []
-violations_at m (r ∷ rest) = violated m.place r m.line ∷ violations_at m rest
+violations_at m rules = map (λ r. violated m.place r m.line) rules
 
 -- the violations of what stands in a program, or in a part of it
 abbrev pub violations_of : List Note → List Violation
-violations_of [] = []
-violations_of (n ∷ rest) = violations_at (mark_of n) (broken n) ++ violations_of rest
+violations_of notes = flat_map (λ n. violations_at (mark_of n) (broken n)) notes
 
 abbrev pub declared_meaning : Mark → Bool → Owner → List ℕ → Option Entity → List Resolved
 declared_meaning m unsigned o captured None = []
@@ -84,8 +83,7 @@ is_main (tree.Constant c) = false
 is_main (tree.Function f) = (f.name.id == main_id) && is_int f.ty && is_empty (param_list f.params)
 
 abbrev pub has_main : List tree.ItemTree → Bool
-has_main [] = false
-has_main (i ∷ is) = is_main i || has_main is
+has_main items = list_any is_main items
 
 -- 23: there is none; the place is the number of tokens, and the line 1
 abbrev pub no_main : tree.ProgramTree → List Violation

@@ -14,7 +14,7 @@ use Rattle.os_lexer.specs.declared.fault.Fault.{Fault}
 use Rattle.os_lexer.specs.declared.fault.Fault.TheVariants as fault
 use Rattle.os_lexer.specs.declared.form.Form.{Form}
 use Rattle.os_lexer.specs.declared.mode.Mode.{Mode}
-use Rattle.os_lexer.specs.declared.mode.Mode.TheVariants.{LineStart, InLine, InPragma}
+use Rattle.os_lexer.specs.declared.mode.Mode.TheVariants.{LineStart, InPragma}
 use Rattle.os_lexer.specs.declared.token.Kind.{Kind}
 use Rattle.os_lexer.specs.declared.token.Kind.TheVariants as kind
 use Rattle.os_lexer.specs.declared.token.Token.{Token}
@@ -35,8 +35,7 @@ token_of text kind from to = record { kind = kind; start = from; end = to; line 
 
 -- what the lexeme of this form and length does at the point
 abbrev pub effect_at : List ℕ → Point → Form → ℕ → Effect
-effect_at text p form n =
-    let slice = take n (drop p.at text) in effect p.mode (name_number text p.tokens slice) form slice
+effect_at text p form n = let slice = take n (drop p.at text) in effect p.mode (name_number text p.tokens slice) form slice
 
 -- the point behind n bytes that are skipped
 abbrev pub skipped_to : Point → ℕ → Mode → Point
@@ -44,8 +43,7 @@ skipped_to p n mode = record { at = p.at + n; mode = mode; tokens = p.tokens }
 
 -- the point behind n bytes that are a token
 abbrev pub given_to : List ℕ → Point → ℕ → Kind → Mode → Point
-given_to text p n kind mode =
-    record { at = p.at + n; mode = mode; tokens = p.tokens ++ token_of text kind p.at (p.at + n) ∷ [] }
+given_to text p n kind mode = record { at = p.at + n; mode = mode; tokens = p.tokens ++ token_of text kind p.at (p.at + n) ∷ [] }
 
 -- No form stands at the point.
 abbrev pub IsFormless : List ℕ → Type 0
@@ -54,11 +52,9 @@ IsFormless rest = (form : Form) (n : ℕ) → n ≤ length rest → IsForm form 
 -- a lexeme leads from a point to the point behind it: it is skipped, or is the next token
 pub data LexemeStep (text : List ℕ) : Point → Point → Type 0 where
   skips : {p : Point} {form : Form} {n : ℕ} {mode : Mode} →
-      IsLexeme (drop p.at text) form n → effect_at text p form n ≡ Skip mode →
-      LexemeStep text p (skipped_to p n mode)
+      IsLexeme (drop p.at text) form n → effect_at text p form n ≡ Skip mode → LexemeStep text p (skipped_to p n mode)
   gives : {p : Point} {form : Form} {n : ℕ} {kind : Kind} {mode : Mode} →
-      IsLexeme (drop p.at text) form n → effect_at text p form n ≡ Give kind mode →
-      LexemeStep text p (given_to text p n kind mode)
+      IsLexeme (drop p.at text) form n → effect_at text p form n ≡ Give kind mode → LexemeStep text p (given_to text p n kind mode)
 
 -- lexemes lead from a point to another
 pub data Leads (text : List ℕ) : Point → Point → Type 0 where
@@ -67,9 +63,8 @@ pub data Leads (text : List ℕ) : Point → Point → Type 0 where
 
 -- a pragma's line may end with the text, and its end is then an empty slice
 abbrev pub tokens_at_end : List ℕ → Mode → List Token
-tokens_at_end text LineStart = []
-tokens_at_end text InLine = []
 tokens_at_end text InPragma = token_of text kind.PragmaEnd (length text) (length text) ∷ []
+tokens_at_end text _ = []
 
 -- the tokens of the text
 pub record IsTokenCover (text : List ℕ) (tokens : List Token) : Type 0 where

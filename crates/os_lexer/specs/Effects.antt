@@ -24,27 +24,23 @@ code_of fault.BigNumber = 3
 
 -- behind a token
 abbrev pub mode_after_token : Mode → Mode
-mode_after_token LineStart = InLine
-mode_after_token InLine = InLine
 mode_after_token InPragma = InPragma
+mode_after_token _ = InLine
 
 -- A line feed ends the line, also in a joined line or a block comment. Within a pragma's line these don't end it.
 abbrev pub mode_after_gap : Mode → List ℕ → Mode
-mode_after_gap LineStart s = LineStart
 mode_after_gap InLine s = if list_any is_line_feed s then LineStart else InLine
-mode_after_gap InPragma s = InPragma
+mode_after_gap mode s = mode
 
 -- The line feed that ends a pragma's line is a token. Other white space is skipped.
 abbrev pub space_effect : Mode → List ℕ → Effect
-space_effect LineStart s = Skip (mode_after_gap LineStart s)
-space_effect InLine s = Skip (mode_after_gap InLine s)
 space_effect InPragma s = if list_any is_line_feed s then Give kind.PragmaEnd LineStart else Skip InPragma
+space_effect mode s = Skip (mode_after_gap mode s)
 
 -- A `#` that begins a directive has only white space and comments before it on its line. Any other is a bad byte.
 abbrev pub directive_effect : Mode → Effect → Effect
 directive_effect LineStart effect = effect
-directive_effect InLine effect = Fail fault.BadByte
-directive_effect InPragma effect = Fail fault.BadByte
+directive_effect _ effect = Fail fault.BadByte
 
 -- What a run that begins with a digit does: where it is no number it is a bad byte. An `int` is at most 2,147,483,647, an
 -- `unsigned` at most 4,294,967,295, and a number that fits no type that it may have is a big number.

@@ -6,19 +6,8 @@ use Rattle.os_lexer.specs.declared.token.Token.{Token}
 -- the names that have the numbers 0 to 11
 abbrev pub fixed_names : List (List ℕ)
 fixed_names =
-    codes "omp" ∷
-    codes "task" ∷
-    codes "tick" ∷
-    codes "taskwait" ∷
-    codes "input" ∷
-    codes "output" ∷
-    codes "firstprivate" ∷
-    codes "stream" ∷
-    codes "main" ∷
-    codes "osin" ∷
-    codes "osout" ∷
-    codes "osin_len" ∷
-    []
+    codes "omp" ∷ codes "task" ∷ codes "tick" ∷ codes "taskwait" ∷ codes "input" ∷ codes "output" ∷
+    codes "firstprivate" ∷ codes "stream" ∷ codes "main" ∷ codes "osin" ∷ codes "osout" ∷ codes "osin_len" ∷ []
 
 -- their numbers, which are their places in this list
 abbrev pub omp_id : ℕ
@@ -67,5 +56,4 @@ first_index text tokens name = position_or_len (λ token. bytes_eq name (spellin
 
 -- every name that isn't fixed has 12 plus the index of the first token with the same spelling
 abbrev pub name_number : List ℕ → List Token → List ℕ → ℕ
-name_number text tokens name =
-    unwrap_or (position (bytes_eq name) fixed_names) (12 + first_index text tokens name)
+name_number text tokens name = unwrap_or (position (bytes_eq name) fixed_names) (12 + first_index text tokens name)

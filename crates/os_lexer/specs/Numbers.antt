@@ -32,14 +32,12 @@ hexadecimal_value (b ∷ rest) = value_if_all is_hexadecimal_digit 16 (b ∷ res
 -- `0` stands alone, or is followed by octal digits
 abbrev pub value_after_zero : List ℕ → Option ℕ
 value_after_zero [] = Some 0
-value_after_zero (b ∷ rest) =
-    if b == 120 || b == 88 then hexadecimal_value rest else value_if_all is_octal_digit 8 (b ∷ rest)
+value_after_zero (b ∷ rest) = if b == 120 || b == 88 then hexadecimal_value rest else value_if_all is_octal_digit 8 (b ∷ rest)
 
 -- A decimal number has no leading zero. The value of a number without a suffix, if it is of a form.
 abbrev pub plain_value : List ℕ → Option ℕ
 plain_value [] = None
-plain_value (b ∷ rest) =
-    if b == 48 then value_after_zero rest else value_if_all is_digit 10 (b ∷ rest)
+plain_value (b ∷ rest) = if b == 48 then value_after_zero rest else value_if_all is_digit 10 (b ∷ rest)
 
 -- a run ends in `u` or `U`, the suffix of numbers that are `unsigned`
 abbrev pub has_suffix : List ℕ → Bool

@@ -24,8 +24,7 @@ shape_of (Some i) = shape.Indexed
 -- what stands behind the stream of an item
 abbrev pub window_notes : Scope → List ℕ → tree.TargetTree → Option tree.JoinTree → List Note
 window_notes s before stream None = Listed before (target_name stream) ∷ []
-window_notes s before stream (Some j) =
-    Listed before j.name ∷ Used s j.name (usage.Joined (shape_of j.burst)) ∷ index_notes s j.burst
+window_notes s before stream (Some j) = Listed before j.name ∷ Used s j.name (usage.Joined (shape_of j.burst)) ∷ index_notes s j.burst
 
 -- a part, behind parts of these names
 abbrev pub part_notes : Scope → List ℕ → ClausePart → List Note
@@ -40,8 +39,7 @@ parts_notes s before (p ∷ ps) = part_notes s before p ++ parts_notes s ((part_
 -- what an item's name is in the body, by its arrow and by what the name is round the task
 abbrev pub named_entity : ℕ → Direction → Option tree.JoinTree → Option Entity → Entity
 named_entity item d (Some j) (Some (entity.Window slot)) = entity.View item d
-named_entity item d (Some j) _ = entity.Element item d
-named_entity item d None _ = entity.Element item d
+named_entity item d _ _ = entity.Element item d
 
 -- In a task's body an item's name is a view, where it is a window, or else an element.
 abbrev pub item_entity : Scope → ℕ → Direction → tree.ClauseItemTree → Entity
@@ -65,8 +63,7 @@ in_task s slots = enter (record (in_unit owner.OfTask s) { captured = slots; slo
 -- The body of a task in `main` has the captured scalars. A task that stands anywhere else violates a rule.
 abbrev pub captured_in : Owner → List ℕ → List ℕ
 captured_in owner.OfMain slots = slots
-captured_in owner.OfFunction slots = []
-captured_in owner.OfTask slots = []
+captured_in _ slots = []
 
 -- the scope in which a task's body stands
 abbrev pub in_task_body : Scope → List ClausePart → tree.StmtTree → Scope

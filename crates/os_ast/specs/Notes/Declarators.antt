@@ -1,5 +1,6 @@
 -- Declarators: what they declare and take, and what stands in them.
-use Rattle.std.specs.Prelude.{ℕ, ◌+◌, ◌&&◌, Bool, true, false, not, if◌then◌else◌, List, [], ◌∷◌, ◌++◌, Option, Some, None, ℤ, pos, negsuc, unwrap_or}
+use Rattle.std.specs.Prelude.{ℕ, ◌+◌, ◌&&◌, Bool, true, false, not, if◌then◌else◌, List, [], ◌∷◌, ◌++◌, fold}
+use Rattle.std.specs.Prelude.{Option, Some, None, unwrap_or, option_and_then, ℤ, pos, negsuc}
 use Rattle.os_ast.specs.Limits.{is_size}
 use Rattle.os_ast.specs.Names.{Scope, lookup, entity_of, declare, typed}
 use Rattle.os_ast.specs.Notes.Expressions.{expr_notes, value_notes, change_notes}
@@ -26,8 +27,7 @@ size_value s _ = None
 
 -- that of a declarator's size
 abbrev pub size_told : Scope → Option tree.IndexTree → Option ℤ
-size_told s None = None
-size_told s (Some i) = size_value s i.value
+size_told s i = option_and_then (λ (i : tree.IndexTree). size_value s i.value) i
 
 -- as a number of slots or streams, where it is a size
 abbrev pub within_limit : ℤ → Option ℕ
@@ -35,8 +35,7 @@ within_limit (pos n) = if is_size (Some (pos n)) then Some n else None
 within_limit (negsuc n) = None
 
 abbrev pub limited : Option ℤ → Option ℕ
-limited None = None
-limited (Some v) = within_limit v
+limited v = option_and_then within_limit v
 
 abbrev pub size_of : Scope → tree.ExprTree → Option ℕ
 size_of s e = limited (size_value s e)
@@ -44,8 +43,7 @@ size_of s e = limited (size_value s e)
 -- an array declaration of `main` outside tasks is a window, every other is a local array
 abbrev pub sized_form : Owner → Option ℕ → Form
 sized_form owner.OfMain size = form_of.Window
-sized_form owner.OfFunction size = form_of.Array size
-sized_form owner.OfTask size = form_of.Array size
+sized_form _ size = form_of.Array size
 
 abbrev pub form_with : Scope → Bool → Option tree.IndexTree → Form
 form_with s false None = form_of.Scalar
@@ -58,8 +56,7 @@ form s d = form_with s d.stream d.size
 
 abbrev pub scalar_entity : Owner → ℕ → Entity
 scalar_entity owner.OfMain slot = entity.Control slot
-scalar_entity owner.OfFunction slot = entity.Scalar slot
-scalar_entity owner.OfTask slot = entity.Scalar slot
+scalar_entity _ slot = entity.Scalar slot
 
 -- where the size is wrong, 0 stands for it
 abbrev pub form_entity : Scope → Form → Entity
@@ -81,11 +78,10 @@ with_streams s count = record s { streams = s.streams + count }
 
 -- what the declarator takes: a scalar or a window one slot, a local array as many as its size
 abbrev pub taken : Scope → Form → Scope
-taken s form_of.Scalar = record s { slots = s.slots + 1 }
 taken s (form_of.Array size) = with_array s (unwrap_or size 0)
-taken s form_of.Window = record s { slots = s.slots + 1 }
 taken s form_of.Stream = with_streams s 1
 taken s (form_of.Streams size) = with_streams s (unwrap_or size 0)
+taken s _ = record s { slots = s.slots + 1 }
 
 -- in scope from the end of the declarator, before its first value
 abbrev pub after_declarator : Scope → tree.DeclaratorTree → Scope
@@ -94,8 +90,7 @@ after_declarator s d = declare (taken s (form s d)) d.name.id (declared_entity s
 -- whether an array declaration is a window
 abbrev pub is_window : Owner → Bool
 is_window owner.OfMain = true
-is_window owner.OfFunction = false
-is_window owner.OfTask = false
+is_window _ = false
 
 -- the name that a size is; any other expression there isn't looked into
 abbrev pub size_notes : Scope → tree.ExprTree → List Note
@@ -111,17 +106,15 @@ abbrev pub declarator_notes : Scope → tree.DeclaratorTree → List Note
 declarator_notes s d = Declared s d ∷ sized_notes s d.stream d.size ++ value_notes (after_declarator s d) d.first
 
 abbrev pub after_declarators : Scope → List tree.DeclaratorTree → Scope
-after_declarators s [] = s
-after_declarators s (d ∷ ds) = after_declarators (after_declarator s d) ds
+after_declarators s ds = fold after_declarator s ds
 
 abbrev pub declarators_notes : Scope → List tree.DeclaratorTree → List Note
 declarators_notes s [] = []
 declarators_notes s (d ∷ ds) = declarator_notes s d ++ declarators_notes (after_declarator s d) ds
 
 abbrev pub after_start : Scope → tree.StartTree → Scope
-after_start s tree.StartTree.Empty = s
 after_start s (tree.StartTree.Declare t ds) = after_declarators (typed t s) ds
-after_start s (tree.StartTree.Change c) = s
+after_start s _ = s
 
 abbrev pub start_notes : Scope → tree.StartTree → List Note
 start_notes s tree.StartTree.Empty = []

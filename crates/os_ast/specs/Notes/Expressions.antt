@@ -1,5 +1,6 @@
 -- Names in expressions and changes.
-use Rattle.std.specs.Prelude.{ℕ, suc, List, [], ◌∷◌, ◌++◌, Option, Some, None}
+use Rattle.std.specs.Prelude.{ℕ, suc, List, [], ◌∷◌, ◌++◌, Option}
+use Rattle.std.specs.Option.{option_map_or}
 use Rattle.os_ast.specs.Names.{Scope}
 use Rattle.os_ast.specs.Notes.Kinds.{Note, Used}
 use Rattle.os_ast.specs.Trees as tree
@@ -16,14 +17,13 @@ count_args (tree.arg e es) = suc (count_args es)
 -- Expressions change nothing of what is in scope.
 abbrev mutual
   pub expr_notes : Scope → tree.ExprTree → List Note
-  expr_notes s (tree.Number n) = []
-  expr_notes s (tree.Wide n) = []
   expr_notes s (tree.Place t) = place_notes s role.Value t
   expr_notes s (tree.ExprTree.Call f args) = Used s f (usage.Called (count_args args)) ∷ args_notes s args
   expr_notes s (tree.Paren e) = expr_notes s e
   expr_notes s (tree.Unary op m e) = expr_notes s e
   expr_notes s (tree.Chain l first links) = expr_notes s first ++ links_notes s links
   expr_notes s (tree.Choice c a b) = expr_notes s c ++ expr_notes s a ++ expr_notes s b
+  expr_notes s _ = []
 
   -- a name, with an index or without, by where it stands
   pub place_notes : Scope → Role → tree.TargetTree → List Note
@@ -39,12 +39,10 @@ abbrev mutual
   links_notes s (tree.link op m e rest) = expr_notes s e ++ links_notes s rest
 
 abbrev pub value_notes : Scope → Option tree.ExprTree → List Note
-value_notes s None = []
-value_notes s (Some e) = expr_notes s e
+value_notes s e = option_map_or (expr_notes s) e []
 
 abbrev pub index_notes : Scope → Option tree.IndexTree → List Note
-index_notes s None = []
-index_notes s (Some i) = expr_notes s i.value
+index_notes s i = option_map_or (λ (i : tree.IndexTree). expr_notes s i.value) i []
 
 abbrev pub change_notes : Scope → tree.ChangeTree → List Note
 change_notes s (tree.Set t a m e) = place_notes s role.Changed t ++ expr_notes s e
@@ -52,5 +50,4 @@ change_notes s (tree.After t step m) = place_notes s role.Changed t
 change_notes s (tree.Before t step m) = place_notes s role.Changed t
 
 abbrev pub step_notes : Scope → Option tree.ChangeTree → List Note
-step_notes s None = []
-step_notes s (Some c) = change_notes s c
+step_notes s c = option_map_or (change_notes s) c []

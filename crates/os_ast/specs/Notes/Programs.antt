@@ -1,5 +1,5 @@
 -- Functions, constants and whole programs: what is in scope in them and after them, and what stands in them.
-use Rattle.std.specs.Prelude.{ℕ, ◌+◌, ◌==◌, false, if◌then◌else◌, List, [], ◌∷◌, ◌++◌, length}
+use Rattle.std.specs.Prelude.{ℕ, ◌+◌, ◌==◌, false, if◌then◌else◌, List, [], ◌∷◌, ◌++◌, length, fold}
 use Rattle.os_ast.specs.Names.{Scope, declare, flagged, typed, enter, in_unit, after_unit, constant_value, main_id, osin_id, osout_id, osin_len_id}
 use Rattle.os_ast.specs.Notes.Declarators.{scalar_entity}
 use Rattle.os_ast.specs.Notes.Kinds.{Note, Given, Global}
@@ -17,16 +17,14 @@ abbrev pub owner_of : ℕ → Owner
 owner_of id = if id == main_id then owner.OfMain else owner.OfFunction
 
 abbrev pub param_list : Params → List Param
-param_list params_of.Empty = []
-param_list params_of.Void = []
 param_list (params_of.Names ps) = ps
+param_list _ = []
 
 -- The scope round the body of `main`, with `osin_len` in slot 0.
 abbrev pub round_body : Owner → Scope → Scope
 round_body owner.OfMain s =
     record (declare (declare (declare (flagged false s) osin_id (entity.Stream 0)) osout_id (entity.Stream 1)) osin_len_id entity.InputLength) { slots = 1 }
-round_body owner.OfFunction s = s
-round_body owner.OfTask s = s
+round_body _ s = s
 
 -- the scope of a function's parameters and of its outermost block, before the parameters
 abbrev pub in_function : Scope → ℕ → Scope
@@ -36,8 +34,7 @@ abbrev pub after_param : Scope → Param → Scope
 after_param s p = declare (typed p.ty (record s { slots = s.slots + 1 })) p.name.id (scalar_entity s.owner s.slots)
 
 abbrev pub after_params : Scope → List Param → Scope
-after_params s [] = s
-after_params s (p ∷ ps) = after_params (after_param s p) ps
+after_params s ps = fold after_param s ps
 
 abbrev pub params_notes : Scope → List Param → List Note
 params_notes s [] = []
@@ -45,8 +42,7 @@ params_notes s (p ∷ ps) = Given s p ∷ params_notes (after_param s p) ps
 
 -- A function is in scope from its body's end.
 abbrev pub after_function : Scope → Scope → tree.FunctionTree → Scope
-after_function s inner f =
-    let after = after_unit s inner in
+after_function s inner f = let after = after_unit s inner in
     declare (typed f.ty (record after { functions = after.functions + 1 })) f.name.id (entity.Function after.functions (length (param_list f.params)))
 
 abbrev pub in_body : Scope → tree.FunctionTree → Scope
@@ -58,14 +54,10 @@ after_item s (tree.Function f) = after_function s (after_stmts (in_body s f) f.b
 
 abbrev pub item_notes : Scope → tree.ItemTree → List Note
 item_notes s (tree.Constant c) = Global s c.name ∷ []
-item_notes s (tree.Function f) =
-    Global s f.name
-    ∷ params_notes (in_function s f.name.id) (param_list f.params)
-    ++ stmts_notes (in_body s f) f.body
+item_notes s (tree.Function f) = Global s f.name ∷ params_notes (in_function s f.name.id) (param_list f.params) ++ stmts_notes (in_body s f) f.body
 
 abbrev pub after_items : Scope → List tree.ItemTree → Scope
-after_items s [] = s
-after_items s (i ∷ is) = after_items (after_item s i) is
+after_items s is = fold after_item s is
 
 abbrev pub items_notes : Scope → List tree.ItemTree → List Note
 items_notes s [] = []

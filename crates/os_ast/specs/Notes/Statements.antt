@@ -14,21 +14,14 @@ use Rattle.os_ast.specs.declared.names.Use.TheVariants as usage
 -- what is in scope after a statement
 abbrev mutual
   pub after_stmt : Scope → tree.StmtTree → Scope
-  after_stmt s tree.StmtTree.Empty = s
   after_stmt s (tree.Block ss) = leave s (after_stmts (enter s) ss)
   after_stmt s (tree.StmtTree.Declare t ds) = after_declarators (typed t s) ds
-  after_stmt s (tree.StmtTree.Change c) = s
-  after_stmt s (tree.StmtTree.Call f args) = s
   after_stmt s (tree.If c a) = after_stmt s a
   after_stmt s (tree.IfElse c a b) = after_stmt (after_stmt s a) b
   after_stmt s (tree.While c a) = behind s (after_stmt (in_loop s) a)
   after_stmt s (tree.For start test step a) = leave s (after_stmt (in_loop (after_start (enter s) start)) a)
-  after_stmt s (tree.Break m) = s
-  after_stmt s (tree.Continue m) = s
-  after_stmt s (tree.Return m e) = s
   after_stmt s (tree.Task m cs a) = after_unit s (after_stmt (in_task_body s (parts cs) a) a)
-  after_stmt s (tree.Tick m t arrow e) = s
-  after_stmt s (tree.Taskwait m) = s
+  after_stmt s _ = s
 
   pub after_stmts : Scope → tree.Stmts → Scope
   after_stmts s tree.no_stmts = s
@@ -44,8 +37,7 @@ abbrev mutual
   stmt_notes s (tree.If c a) = expr_notes s c ++ stmt_notes s a
   stmt_notes s (tree.IfElse c a b) = expr_notes s c ++ stmt_notes s a ++ stmt_notes (after_stmt s a) b
   stmt_notes s (tree.While c a) = expr_notes s c ++ stmt_notes (in_loop s) a
-  stmt_notes s (tree.For start test step a) =
-      let head = after_start (enter s) start in
+  stmt_notes s (tree.For start test step a) = let head = after_start (enter s) start in
       start_notes (enter s) start ++ value_notes head test ++ step_notes head step ++ stmt_notes (in_loop head) a
   stmt_notes s (tree.Break m) = Left s m ∷ []
   stmt_notes s (tree.Continue m) = Left s m ∷ []
