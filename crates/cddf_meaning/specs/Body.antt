@@ -12,7 +12,7 @@ use Rattle.cddf_meaning.specs.Run.{run}
 use Rattle.cddf_meaning.specs.BodyState.{state_of}
 use Rattle.cddf_meaning.specs.Tasks.{Task}
 use Rattle.cddf_meaning.specs.Variables.{bind}
-use Rattle.cddf_meaning.specs.declared.ending.Ending.TheVariants.{Trapped, OverBudget, Limited}
+use Rattle.cddf_meaning.specs.declared.ending.Ending.TheVariants.{Trapped}
 use Rattle.cddf_meaning.specs.declared.typed_name.TypedName.{TypedName}
 use Rattle.cddf_meaning.specs.declared.variable.Binding.{Binding}
 use Rattle.cddf_meaning.specs.declared.variable.Variable.TheVariants.{Scalar, Item}
@@ -43,15 +43,13 @@ bound_round t values = bind_items 0 t.items (bind_captured t.captured values [])
 -- output item is 0 at first. The input has the sum of the read horizons as length.
 abbrev pub item_lists : List Claim → List ℤ → List (List ℤ)
 item_lists [] inputs = []
-item_lists (c ∷ cs) inputs =
-    if c.write then replicate c.horizon (pos 0) ∷ item_lists cs inputs
+item_lists (c ∷ cs) inputs = if c.write then replicate c.horizon (pos 0) ∷ item_lists cs inputs
     else take c.horizon inputs ∷ item_lists cs (drop c.horizon inputs)
 
 -- The elements of the output items, one item after another; each has as many as its claim's horizon.
 abbrev pub outputs_of : List Claim → List (List ℤ) → List ℤ
-outputs_of [] items = []
-outputs_of (c ∷ cs) [] = []
 outputs_of (c ∷ cs) (vs ∷ items) = if c.write then vs ++ outputs_of cs items else outputs_of cs items
+outputs_of _ _ = []
 
 -- whether a claim writes to `osout`, which is stream 1
 abbrev pub writes_output : Claim → Bool
@@ -59,9 +57,8 @@ writes_output c = c.write && (c.stream == 1)
 
 -- whether every element that goes to `osout` is a byte
 abbrev pub gives_bytes : List Claim → List (List ℤ) → Bool
-gives_bytes [] items = true
-gives_bytes (c ∷ cs) [] = true
 gives_bytes (c ∷ cs) (vs ∷ items) = (not (writes_output c) || list_all is_byte vs) && gives_bytes cs items
+gives_bytes _ _ = true
 
 abbrev pub done : List ℤ → Outcome
 done outputs = outcome_of end.Done outputs
@@ -78,13 +75,11 @@ over_budget = outcome_of end.OverBudget []
 abbrev pub outcome : (line : ℕ) → List Claim → Ran → Outcome
 outcome line claims (Went flow s turns) = if gives_bytes claims s.items then done (outputs_of claims s.items) else trapped (trap_code NoByte) line
 outcome line claims (Ended (Trapped why at) activations) = trapped (trap_code why) at
-outcome line claims (Ended OverBudget activations) = over_budget
-outcome line claims (Ended (Limited limit) activations) = over_budget
+outcome line claims _ = over_budget
 
 -- the body of a task, behind these items of the file
 abbrev pub task_outcome : File → Task → Activation → List ℤ → ℕ → Outcome
-task_outcome file t a inputs budget =
-    outcome t.mark.line a.claims
+task_outcome file t a inputs budget = outcome t.mark.line a.claims
     (run (in_function file) t.body (state_of (bound_round t a.captured) (item_lists a.claims inputs)) budget)
 
 -- An activation is of one of the tasks.

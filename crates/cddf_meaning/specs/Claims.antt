@@ -1,5 +1,5 @@
 -- The claims of an activation on streams, and the limits of the control program.
-use Rattle.std.specs.Prelude.{ℕ, ◌+◌, ◌==◌, ◌&&◌, Bool, not, true, false, if◌then◌else◌, ltb, leb, List, [], ◌∷◌, length, Option, Some, None}
+use Rattle.std.specs.Prelude.{ℕ, ◌+◌, ◌==◌, ◌&&◌, Bool, not, true, false, if◌then◌else◌, ltb, leb, List, [], ◌∷◌, length, fold, Option, Some, None}
 use Rattle.std.specs.List.{sum_by}
 use Rattle.c_int.specs.declared.control_limit.ControlLimit.{ControlLimit}
 use Rattle.c_int.specs.declared.control_limit.ControlLimit.TheVariants.{Activations, Elements}
@@ -36,8 +36,7 @@ with_skips moves (c ∷ cs) = with_skip moves c ∷ with_skips (Take c ∷ moves
 
 -- behind the claims of one activation
 abbrev pub moves_behind : List Move → List Claim → List Move
-moves_behind moves [] = moves
-moves_behind moves (c ∷ cs) = moves_behind (Take c ∷ moves) cs
+moves_behind moves claims = fold (λ moves (c : Claim). Take c ∷ moves) moves claims
 
 -- the sum of the horizons of claims
 abbrev pub horizons : List Claim → ℕ
@@ -56,7 +55,5 @@ horizons_limit = 4194304
 -- The limit that a further activation with these claims would pass: that on the number of activations, or that on the sum of their
 -- horizons. The first one is looked at first.
 abbrev pub limit : List Activation → List Claim → Option ControlLimit
-limit activations claims =
-    if leb activations_limit (length activations) then Some Activations
-    else if ltb horizons_limit (all_horizons activations + horizons claims) then Some Elements
-    else None
+limit activations claims = if leb activations_limit (length activations) then Some Activations
+    else if ltb horizons_limit (all_horizons activations + horizons claims) then Some Elements else None

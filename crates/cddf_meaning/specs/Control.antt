@@ -33,12 +33,10 @@ round_main m = record { file = m.file; is_control = true; sites = sites_of m.tas
 
 -- round the body of `main`: `osin`, which is stream 0, `osout`, which is stream 1, and `osin_len`, each of the type `int`
 abbrev pub bound_round_main : (input_len : ℕ) → List Binding
-bound_round_main input_len =
-    bind osin_len_id false (Scalar (pos input_len)) (bind osout_id false (Stream 1 1) (bind osin_id false (Stream 0 1) []))
+bound_round_main input_len = bind osin_len_id false (Scalar (pos input_len)) (bind osout_id false (Stream 1 1) (bind osin_id false (Stream 0 1) []))
 
 abbrev pub control_state : (input_len : ℕ) → BodyState
-control_state input_len =
-    record { bound = bound_round_main input_len; items = []; activations = []; streams = 2; moves = [] }
+control_state input_len = record { bound = bound_round_main input_len; items = []; activations = []; streams = 2; moves = [] }
 
 -- A program has a function `main`.
 abbrev pub control_in : Option Main → (input_len budget : ℕ) → Control

@@ -15,19 +15,14 @@ Flags = Name → Bool
 
 -- `!` gives an `int`, and every other operator with one operand the type of that.
 abbrev pub type_of_one : Unary → Bool → Bool
-type_of_one unary.Minus operand = operand
-type_of_one unary.Plus operand = operand
 type_of_one unary.Not operand = false
-type_of_one unary.Invert operand = operand
+type_of_one _ operand = operand
 
 -- `&&`, `||` and comparisons give an `int`, a shift the type of its left operand, and every other operator with two operands
 -- `unsigned` where one of them is.
 abbrev pub type_of_two : Binary → (left right : Bool) → Bool
 type_of_two binary.Or left right = false
 type_of_two binary.And left right = false
-type_of_two binary.BitOr left right = left || right
-type_of_two binary.BitXor left right = left || right
-type_of_two binary.BitAnd left right = left || right
 type_of_two binary.Equal left right = false
 type_of_two binary.Unequal left right = false
 type_of_two binary.Less left right = false
@@ -36,11 +31,7 @@ type_of_two binary.Greater left right = false
 type_of_two binary.GreaterEqual left right = false
 type_of_two binary.ShiftLeft left right = left
 type_of_two binary.ShiftRight left right = left
-type_of_two binary.Add left right = left || right
-type_of_two binary.Subtract left right = left || right
-type_of_two binary.Multiply left right = left || right
-type_of_two binary.Divide left right = left || right
-type_of_two binary.Remainder left right = left || right
+type_of_two _ left right = left || right
 
 abbrev mutual
   -- A number with an ending, or past 2^31 - 1, is `unsigned`; a name, an element or a call has the type of what it names; and

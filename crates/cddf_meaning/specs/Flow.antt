@@ -4,7 +4,7 @@ use Rattle.cddf_meaning.specs.Answers.{Answer}
 use Rattle.cddf_meaning.specs.BodyState.{BodyState}
 use Rattle.cddf_meaning.specs.Variables.{leave}
 use Rattle.cddf_meaning.specs.declared.ending.Ending.{Ending}
-use Rattle.cddf_meaning.specs.declared.flow.Flow.TheVariants.{GoesOn, Breaks, Continues, Returns}
+use Rattle.cddf_meaning.specs.declared.flow.Flow.TheVariants.{GoesOn, Breaks, Continues}
 use Rattle.cddf_meaning.specs.declared.flow.Flow.{Flow}
 use Rattle.flow_core_laws.specs.declared.activation.Activation.{Activation}
 
@@ -29,18 +29,14 @@ goes_on s turns = Went GoesOn s turns
 -- what follows, where nothing leaves it
 abbrev pub flows : Runs → Ran → Ran
 flows next (Went GoesOn s turns) = next s turns
-flows next (Went Breaks s turns) = Went Breaks s turns
-flows next (Went Continues s turns) = Went Continues s turns
-flows next (Went (Returns v) s turns) = Went (Returns v) s turns
-flows next (Ended ending activations) = Ended ending activations
+flows next ran = ran
 
 -- Behind the body of a loop: `continue` goes on with it, and `break` leaves it. C11, 6.8.6.2 and 6.8.6.3.
 abbrev pub loops : Runs → Ran → Ran
 loops next (Went GoesOn s turns) = next s turns
 loops next (Went Breaks s turns) = Went GoesOn s turns
 loops next (Went Continues s turns) = next s turns
-loops next (Went (Returns v) s turns) = Went (Returns v) s turns
-loops next (Ended ending activations) = Ended ending activations
+loops next ran = ran
 
 abbrev pub left_state : BodyState → BodyState → BodyState
 left_state outer inner = record inner { bound = leave outer.bound inner.bound }

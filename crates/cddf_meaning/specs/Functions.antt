@@ -1,12 +1,12 @@
 -- What the functions of a program give. A function knows those that stand before it in the text.
-use Rattle.std.specs.Prelude.{ℕ, zero, suc, ◌+◌, ◌==◌, Bool, false, if◌then◌else◌, List, [], ◌∷◌, ℤ, pos, Ok, Err}
+use Rattle.std.specs.Prelude.{ℕ, zero, suc, ◌+◌, ◌==◌, Bool, false, if◌then◌else◌, List, [], ◌∷◌, fold, ℤ, pos, Ok, Err}
 use Rattle.cddf_meaning.specs.Answers.{Answer, over, Left, left}
 use Rattle.cddf_meaning.specs.File.{Calls, File}
 use Rattle.cddf_meaning.specs.Flow.{Ran, Went, Ended}
 use Rattle.cddf_meaning.specs.Run.{Around, run_all}
 use Rattle.cddf_meaning.specs.BodyState.{state_of}
 use Rattle.cddf_meaning.specs.Variables.{bind}
-use Rattle.cddf_meaning.specs.declared.flow.Flow.TheVariants.{GoesOn, Breaks, Continues, Returns}
+use Rattle.cddf_meaning.specs.declared.flow.Flow.TheVariants.{Returns}
 use Rattle.cddf_meaning.specs.declared.flow.Flow.{Flow}
 use Rattle.cddf_meaning.specs.declared.variable.Binding.{Binding}
 use Rattle.cddf_meaning.specs.declared.variable.Variable.{Variable}
@@ -20,9 +20,7 @@ use Rattle.os_ast.specs.declared.program.Param.{Param}
 -- A body that ends without a `return` gives 0. `break` and `continue` stand in loops alone.
 abbrev pub result_of : Flow → ℤ
 result_of (Returns v) = v
-result_of GoesOn = pos 0
-result_of Breaks = pos 0
-result_of Continues = pos 0
+result_of _ = pos 0
 
 -- what a call gives where the body ended
 abbrev pub returned : Ran → Answer (Left ℤ)
@@ -43,8 +41,7 @@ in_function file = record { file = file; is_control = false; sites = [] }
 -- A call takes a unit behind its arguments, and runs the body with the parameters set.
 abbrev pub call_function : File → tree.FunctionTree → List ℤ → ℕ → Answer (Left ℤ)
 call_function file f args zero = over
-call_function file f args (suc turns) =
-    returned (run_all (in_function file) f.body (state_of (bind_params (param_list f.params) args []) []) turns)
+call_function file f args (suc turns) = returned (run_all (in_function file) f.body (state_of (bind_params (param_list f.params) args []) []) turns)
 
 abbrev pub item_id : tree.ItemTree → ℕ
 item_id (tree.Constant c) = c.name.id
@@ -62,8 +59,7 @@ item_variable place (tree.Function f) = Function place
 
 abbrev pub calls_with : File → tree.ItemTree → Calls
 calls_with file (tree.Constant c) = file.calls
-calls_with file (tree.Function f) =
-    λ n args turns. if n == file.count then call_function file f args turns else file.calls n args turns
+calls_with file (tree.Function f) = λ n args turns. if n == file.count then call_function file f args turns else file.calls n args turns
 
 -- The file with one more item. A constant or a function is in scope behind it.
 abbrev pub with_item : File → tree.ItemTree → File
@@ -74,8 +70,7 @@ with_item file i = record {
 }
 
 abbrev pub with_items : File → List tree.ItemTree → File
-with_items file [] = file
-with_items file (i ∷ is) = with_items (with_item file i) is
+with_items file is = fold with_item file is
 
 -- No function is called that isn't there.
 abbrev pub empty_file : File

@@ -22,8 +22,6 @@ operator_of_one unary.Invert = one.Invert
 
 -- `&&` and `||` are none: they evaluate their right side only where they need it.
 abbrev pub operator_of_two : Binary → Option int_binary.Binary
-operator_of_two binary.Or = None
-operator_of_two binary.And = None
 operator_of_two binary.BitOr = Some two.BitOr
 operator_of_two binary.BitXor = Some two.BitXor
 operator_of_two binary.BitAnd = Some two.BitAnd
@@ -40,6 +38,7 @@ operator_of_two binary.Subtract = Some two.Subtract
 operator_of_two binary.Multiply = Some two.Multiply
 operator_of_two binary.Divide = Some two.Divide
 operator_of_two binary.Remainder = Some two.Remainder
+operator_of_two _ = None
 
 -- what an operator with one operand gives, by the type of the operand
 abbrev pub unary_value : Unary → ℕ → Bool → ℤ → Answer ℤ

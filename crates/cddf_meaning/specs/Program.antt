@@ -22,8 +22,7 @@ main_at before f = record { file = file_of before; tasks = tasks_in_all (known_i
 abbrev pub main_behind : (before items : List tree.ItemTree) → Option Main
 main_behind before [] = None
 main_behind before (tree.Constant c ∷ is) = main_behind (before ++ tree.Constant c ∷ []) is
-main_behind before (tree.Function f ∷ is) =
-    if f.name.id == main_id then Some (main_at before f) else main_behind (before ++ tree.Function f ∷ []) is
+main_behind before (tree.Function f ∷ is) = if f.name.id == main_id then Some (main_at before f) else main_behind (before ++ tree.Function f ∷ []) is
 
 abbrev pub main_of : tree.ProgramTree → Option Main
 main_of program = main_behind [] program

@@ -36,10 +36,8 @@ pub record Around : Type 0 where
 abbrev pub loop : ℕ → (BodyState → ℕ → Answer (Left ℤ)) → Runs → Runs → Runs
 loop most test body step s zero = Ended OverBudget s.activations
 loop zero test body step s (suc turns) = Ended OverBudget s.activations
-loop (suc most) test body step s (suc turns) =
-    given (test s turns) s
-    (λ n. if is_zero n.value then goes_on s n.turns
-    else loops (λ s turns. flows (loop most test body step) (step s turns)) (body s n.turns))
+loop (suc most) test body step s (suc turns) = given (test s turns) s
+    (λ n. if is_zero n.value then goes_on s n.turns else loops (λ s turns. flows (loop most test body step) (step s turns)) (body s n.turns))
 
 -- What is stored: the right side, or what the operator gives of the old value and the right side, by the types of the target and of
 -- the right side. A conversion to the type of the target keeps the bits.
@@ -50,8 +48,7 @@ assigned (assign_of.With op) line target right old new = binary_value op line ta
 -- The target of a change: its index is evaluated, and checked with the line of its `[`.
 abbrev pub aim_at : File → tree.TargetTree → BodyState → ℕ → Answer (Left Aim)
 aim_at file (tree.Variable n) s turns = Ok (left (Name n.id) turns)
-aim_at file (tree.Element n m e) s turns =
-    and_then (value file e s turns)
+aim_at file (tree.Element n m e) s turns = and_then (value file e s turns)
     (λ i. and_then (checked (length (elements s (find s.bound n.id))) m.line i.value) (λ k. Ok (left (Element n.id k) i.turns)))
 
 abbrev pub old_value : File → BodyState → Aim → ℤ
@@ -65,8 +62,7 @@ after_store s (Element id k) v = stored_at s id k v
 -- A change: the target; then what is stored, which may be made of the old value; then it is stored. Expressions change
 -- no name, so that it makes no difference when the old value is read.
 abbrev pub changed : File → tree.TargetTree → (ℤ → BodyState → ℕ → Answer (Left ℤ)) → Runs
-changed file t right s turns =
-    given (aim_at file t s turns) s
+changed file t right s turns = given (aim_at file t s turns) s
     (λ a. given (right (old_value file s a.value) s a.turns) s (λ v. goes_on (after_store s a.value v.value) v.turns))
 
 -- the type of a target
@@ -76,8 +72,7 @@ target_type file s t = flags file s (target_name t)
 -- `x op= e` operates as `x op e`; `++` and `--` add or take 1. The line of a trap is the operator's. C11, 6.5.16,
 -- 6.5.2.4 and 6.5.3.1.
 abbrev pub run_change : File → tree.ChangeTree → Runs
-run_change file (tree.Set t a m e) =
-    changed file t (λ old s turns. and_then (value file e s turns)
+run_change file (tree.Set t a m e) = changed file t (λ old s turns. and_then (value file e s turns)
     (λ n. with_turns n.turns (assigned a m.line (target_type file s t) (type_in file s e) old n.value)))
 run_change file (tree.After t p m) =
     changed file t (λ old s turns. with_turns turns (binary_value (step_operator p) m.line (target_type file s t) false old (pos 1)))
@@ -88,8 +83,7 @@ run_change file (tree.Before t p m) =
 -- declaration.
 abbrev pub run_scalar : File → Bool → ℕ → Option tree.ExprTree → Runs
 run_scalar file unsigned id None s turns = goes_on (declared id unsigned (Scalar (pos 0)) s) turns
-run_scalar file unsigned id (Some e) s turns =
-    let inner = declared id unsigned (Scalar (pos 0)) s in
+run_scalar file unsigned id (Some e) s turns = let inner = declared id unsigned (Scalar (pos 0)) s in
     given (value file e inner turns) inner (λ n. goes_on (stored inner id n.value) n.turns)
 
 -- The size of a local array or of a stream array is a number or a constant from 1 to 65,536.
@@ -107,14 +101,12 @@ window_size line (pos n) = if leb 1 n && leb n 65536 then Ok n else traps Window
 window_size line (negsuc n) = traps WindowSize line
 
 abbrev pub run_window : File → Bool → ℕ → tree.IndexTree → Runs
-run_window file unsigned id i s turns =
-    given (value file i.value s turns) s
+run_window file unsigned id i s turns = given (value file i.value s turns) s
     (λ n. given (window_size i.mark.line n.value) s (λ horizon. goes_on (declared id unsigned (Window horizon) s) n.turns))
 
 -- Streams are numbered in the order of the text, behind `osin` and `osout`.
 abbrev pub with_streams : ℕ → Bool → ℕ → BodyState → BodyState
-with_streams id unsigned count s =
-    record (declared id unsigned (Stream s.streams count) s) { streams = s.streams + count }
+with_streams id unsigned count s = record (declared id unsigned (Stream s.streams count) s) { streams = s.streams + count }
 
 abbrev pub run_streams : File → Bool → ℕ → Option tree.IndexTree → Runs
 run_streams file unsigned id None s turns = goes_on (with_streams id unsigned 1 s) turns
@@ -164,15 +156,11 @@ abbrev mutual
   run u (tree.StmtTree.Change c) s turns = run_change u.file c s turns
   run u (tree.StmtTree.Call f args) s turns =
       given (and_then (values u.file args s turns) (call_value u.file.calls (variable u.file s f.id))) s (λ n. goes_on s n.turns)
-  run u (tree.If c a) s turns =
-      given (value u.file c s turns) s (λ n. if is_zero n.value then goes_on s n.turns else run u a s n.turns)
-  run u (tree.IfElse c a b) s turns =
-      given (value u.file c s turns) s (λ n. if is_zero n.value then run u b s n.turns else run u a s n.turns)
+  run u (tree.If c a) s turns = given (value u.file c s turns) s (λ n. if is_zero n.value then goes_on s n.turns else run u a s n.turns)
+  run u (tree.IfElse c a b) s turns = given (value u.file c s turns) s (λ n. if is_zero n.value then run u b s n.turns else run u a s n.turns)
   run u (tree.While c a) s turns = loop turns (value u.file c) (run u a) goes_on s turns
-  run u (tree.For start test step a) s turns =
-      left_from s
-      (flows (λ inner left. loop left (run_test u.file test) (run u a) (run_step u.file step) inner left)
-      (run_start u start s turns))
+  run u (tree.For start test step a) s turns = left_from s
+      (flows (λ inner left. loop left (run_test u.file test) (run u a) (run_step u.file step) inner left) (run_start u start s turns))
   run u (tree.Break m) s turns = Went Breaks s turns
   run u (tree.Continue m) s turns = Went Continues s turns
   run u (tree.Return m e) s turns = given (value u.file e s turns) s (λ n. Went (Returns n.value) s n.turns)

@@ -33,10 +33,8 @@ stream_count _ = 0
 -- the stream of an item or a tick; an index that the array doesn't have is trap 4, with the line of the `[`
 abbrev pub stream_number : File → tree.TargetTree → BodyState → ℕ → Answer (Left ℕ)
 stream_number file (tree.Variable n) s turns = Ok (left (first_stream (find s.bound n.id)) turns)
-stream_number file (tree.Element n m e) s turns =
-    let v = find s.bound n.id in
-    and_then (value file e s turns)
-    (λ i. and_then (checked (stream_count v) m.line i.value) (λ k. Ok (left (first_stream v + k) i.turns)))
+stream_number file (tree.Element n m e) s turns = let v = find s.bound n.id in
+    and_then (value file e s turns) (λ i. and_then (checked (stream_count v) m.line i.value) (λ k. Ok (left (first_stream v + k) i.turns)))
 
 -- The burst of an input item, or the amount of a tick, is 0 to 65,536; else it is trap 7.
 abbrev pub cursor_move : ℕ → ℤ → Answer ℕ
@@ -66,14 +64,12 @@ claim_of direction.Writes stream horizon burst = write_claim stream horizon
 -- the burst of an item: 1 without one; else it is evaluated and checked, with the line of its `[`
 abbrev pub burst : File → Direction → ℕ → Option tree.IndexTree → BodyState → ℕ → Answer (Left ℕ)
 burst file d horizon None s turns = Ok (left 1 turns)
-burst file d horizon (Some i) s turns =
-    and_then (value file i.value s turns) (λ n. with_turns n.turns (burst_of d i.mark.line horizon n.value))
+burst file d horizon (Some i) s turns = and_then (value file i.value s turns) (λ n. with_turns n.turns (burst_of d i.mark.line horizon n.value))
 
 -- A stream alone has horizon 1 and burst 1.
 abbrev pub joined : File → Direction → ℕ → Option tree.JoinTree → BodyState → ℕ → Answer (Left Claim)
 joined file d stream None s turns = Ok (left (claim_of d stream 1 1) turns)
-joined file d stream (Some j) s turns =
-    let horizon = horizon_of (find s.bound j.name.id) in
+joined file d stream (Some j) s turns = let horizon = horizon_of (find s.bound j.name.id) in
     and_then (burst file d horizon j.burst s turns) (λ b. Ok (left (claim_of d stream horizon b.value) b.turns))
 
 -- An item: first the stream's index, then the burst.
@@ -84,8 +80,7 @@ item_claim file d i s turns = and_then (stream_number file i.stream s turns) (λ
 abbrev pub items_claims : File → List ClausePart → BodyState → ℕ → Answer (Left (List Claim))
 items_claims file [] s turns = Ok (left [] turns)
 items_claims file (Private n ∷ ps) s turns = items_claims file ps s turns
-items_claims file (Item d i ∷ ps) s turns =
-    and_then (item_claim file d i s turns)
+items_claims file (Item d i ∷ ps) s turns = and_then (item_claim file d i s turns)
     (λ c. and_then (items_claims file ps s c.turns) (λ cs. Ok (left (c.value ∷ cs.value) cs.turns)))
 
 -- the values of captured scalars
@@ -95,11 +90,7 @@ captured_values file s ids = map (λ id. scalar_value s (variable file s id)) id
 -- an activation of the task with this number and these captured scalars
 abbrev pub with_activation : File → ℕ → List ℕ → List Claim → BodyState → BodyState
 with_activation file site ids claims s = record s {
-  activations = s.activations ++ record {
-    site = site;
-    captured = captured_values file s ids;
-    claims = with_skips s.moves claims;
-  } ∷ [];
+  activations = s.activations ++ record { site = site; captured = captured_values file s ids; claims = with_skips s.moves claims } ∷ [];
   moves = moves_behind s.moves claims;
 }
 
@@ -121,8 +112,7 @@ captured_by sites number = get_or (map (λ t. t.captured) sites) number []
 -- the program's tasks.
 abbrev pub run_task : File → List Site → Option ℕ → List ClausePart → BodyState → ℕ → Ran
 run_task file sites None ps s turns = goes_on s turns
-run_task file sites (Some number) ps s turns =
-    given (items_claims file ps s turns) s
+run_task file sites (Some number) ps s turns = given (items_claims file ps s turns) s
     (λ c. unless_limited (limit s.activations c.value) s c.turns (with_activation file number (captured_by sites number) c.value s))
 
 -- a tick moves the read cursor of a stream
@@ -136,7 +126,5 @@ tick_turn stream amount s (suc turns) = goes_on (moved stream amount s) turns
 
 -- A tick: first the stream's index, then the amount, which is checked with the line of the `>>`, then a unit.
 abbrev pub run_tick : File → tree.TargetTree → Mark → tree.ExprTree → BodyState → ℕ → Ran
-run_tick file stream arrow e s turns =
-    given (stream_number file stream s turns) s
-    (λ n. given (value file e s n.turns) s
-    (λ v. given (cursor_move arrow.line v.value) s (λ amount. tick_turn n.value amount s v.turns)))
+run_tick file stream arrow e s turns = given (stream_number file stream s turns) s
+    (λ n. given (value file e s n.turns) s (λ v. given (cursor_move arrow.line v.value) s (λ amount. tick_turn n.value amount s v.turns)))

@@ -1,5 +1,5 @@
 -- The tasks of a program, in the order of the text, found by names alone.
-use Rattle.std.specs.Prelude.{ℕ, ◌==◌, ◌&&◌, Bool, true, false, not, is_none, if◌then◌else◌, List, [], ◌∷◌, ◌++◌, map}
+use Rattle.std.specs.Prelude.{ℕ, ◌==◌, ◌&&◌, Bool, true, false, not, is_none, if◌then◌else◌, List, [], ◌∷◌, ◌++◌, map, filter, fold}
 use Rattle.cddf_meaning.specs.Functions.{item_id, item_unsigned}
 use Rattle.cddf_meaning.specs.declared.known_name.KnownName.{KnownName}
 use Rattle.cddf_meaning.specs.declared.site.Site.{Site}
@@ -35,27 +35,16 @@ abbrev pub known_declarator : Bool → tree.DeclaratorTree → KnownName
 known_declarator unsigned d = known d.name.id (not d.stream && is_none d.size) unsigned
 
 abbrev pub known_start : tree.StartTree → List KnownName
-known_start tree.StartTree.Empty = []
 known_start (tree.StartTree.Declare ty ds) = map (known_declarator (is_unsigned ty)) ds
-known_start (tree.StartTree.Change c) = []
+known_start _ = []
 
 -- what a statement of the control program declares in the scope in which it stands
 abbrev pub known_behind : tree.StmtTree → List KnownName
-known_behind tree.StmtTree.Empty = []
-known_behind (tree.Block ss) = []
 known_behind (tree.StmtTree.Declare ty ds) = map (known_declarator (is_unsigned ty)) ds
-known_behind (tree.StmtTree.Change c) = []
-known_behind (tree.StmtTree.Call f args) = []
 known_behind (tree.If c a) = known_behind a
 known_behind (tree.IfElse c a b) = known_behind a ++ known_behind b
 known_behind (tree.While c a) = known_behind a
-known_behind (tree.For start test step a) = []
-known_behind (tree.Break m) = []
-known_behind (tree.Continue m) = []
-known_behind (tree.Return m e) = []
-known_behind (tree.Task m cs a) = []
-known_behind (tree.Tick m t arrow e) = []
-known_behind (tree.Taskwait m) = []
+known_behind _ = []
 
 abbrev pub known_item : tree.ItemTree → KnownName
 known_item i = known (item_id i) false (item_unsigned i)
@@ -65,8 +54,7 @@ known_param p = known p.name.id true (is_unsigned p.ty)
 
 -- what is in scope round the body of `main`, behind these items of the file
 abbrev pub known_in_main : List tree.ItemTree → tree.FunctionTree → List KnownName
-known_in_main items f =
-    map known_item items
+known_in_main items f = map known_item items
     ++ (known osin_id false false ∷ known osout_id false false ∷ known osin_len_id true false ∷ map known_param (param_list f.params))
 
 -- other names
@@ -79,13 +67,11 @@ abbrev pub with_known : List ℕ → KnownName → List ℕ
 with_known ids k = others k.id ids ++ (if k.scalar then k.id ∷ [] else [])
 
 abbrev pub with_all_known : List ℕ → List KnownName → List ℕ
-with_all_known ids [] = ids
-with_all_known ids (k ∷ ks) = with_all_known (with_known ids k) ks
+with_all_known ids ks = fold with_known ids ks
 
 -- those of a list that are among these
 abbrev pub among : List ℕ → List ℕ → List ℕ
-among names [] = []
-among names (id ∷ ids) = if is_in id names then id ∷ among names ids else among names ids
+among names ids = filter (λ id. is_in id names) ids
 
 -- whether the newest of a name is of the type `unsigned`; where there is none, what is said of it elsewhere
 abbrev pub known_flag : Bool → List KnownName → ℕ → Bool
@@ -108,21 +94,13 @@ task_at ks m cs body = record {
 -- The tasks in a statement, where this is in scope. No task stands in a task.
 abbrev mutual
   pub tasks_in : List KnownName → tree.StmtTree → List Task
-  tasks_in ks tree.StmtTree.Empty = []
   tasks_in ks (tree.Block ss) = tasks_in_all ks ss
-  tasks_in ks (tree.StmtTree.Declare ty ds) = []
-  tasks_in ks (tree.StmtTree.Change c) = []
-  tasks_in ks (tree.StmtTree.Call f args) = []
   tasks_in ks (tree.If c a) = tasks_in ks a
   tasks_in ks (tree.IfElse c a b) = tasks_in ks a ++ tasks_in (ks ++ known_behind a) b
   tasks_in ks (tree.While c a) = tasks_in ks a
   tasks_in ks (tree.For start test step a) = tasks_in (ks ++ known_start start) a
-  tasks_in ks (tree.Break m) = []
-  tasks_in ks (tree.Continue m) = []
-  tasks_in ks (tree.Return m e) = []
   tasks_in ks (tree.Task m cs a) = task_at ks m cs a ∷ []
-  tasks_in ks (tree.Tick m t arrow e) = []
-  tasks_in ks (tree.Taskwait m) = []
+  tasks_in ks _ = []
 
   -- the tasks in the statements of a block
   pub tasks_in_all : List KnownName → tree.Stmts → List Task

@@ -60,15 +60,13 @@ abbrev mutual
   value file (tree.Number n) s turns = Ok (left (pos n) turns)
   value file (tree.Wide n) s turns = Ok (left (cast_signed w32 n) turns)
   value file (tree.Place t) s turns = place_value file t s turns
-  value file (tree.ExprTree.Call f args) s turns =
-      and_then (values file args s turns) (call_value file.calls (variable file s f.id))
+  value file (tree.ExprTree.Call f args) s turns = and_then (values file args s turns) (call_value file.calls (variable file s f.id))
   value file (tree.Paren e) s turns = value file e s turns
   value file (tree.Unary op m e) s turns =
       and_then (value file e s turns) (λ n. with_turns n.turns (unary_value op m.line (type_in file s e) n.value))
   value file (tree.Chain l first links) s turns = and_then (value file first s turns) (chained file links s (type_in file s first))
   -- `condition ? first : second` evaluates one of the two. C11, 6.5.15.
-  value file (tree.Choice c a b) s turns =
-      and_then (value file c s turns)
+  value file (tree.Choice c a b) s turns = and_then (value file c s turns)
       (λ n. if is_zero n.value then value file b s n.turns else value file a s n.turns)
 
   -- a name, without an index or with one
@@ -80,8 +78,7 @@ abbrev mutual
   -- the arguments of a call
   pub values : File → tree.Args → BodyState → ℕ → Answer (Left (List ℤ))
   values file tree.no_args s turns = Ok (left [] turns)
-  values file (tree.arg e es) s turns =
-      and_then (value file e s turns)
+  values file (tree.arg e es) s turns = and_then (value file e s turns)
       (λ n. and_then (values file es s n.turns) (λ ns. Ok (left (n.value ∷ ns.value) ns.turns)))
 
   -- the links of a chain behind a number of type `u`
