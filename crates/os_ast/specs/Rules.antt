@@ -1,6 +1,6 @@
 -- The rules, one after another by their codes, over what stands at a token. A token violates a rule where its test is
 -- true. 23 is a rule for the whole program, and stands with the violations.
-use Rattle.std.specs.Prelude.{ℕ, ◌==◌, ◌&&◌, ◌||◌, Bool, true, false, not, ltb, List, [], ◌∷◌, length, Option, is_none, ℤ}
+use Rattle.std.specs.Prelude.{ℕ, ◌==◌, ◌&&◌, ◌||◌, Bool, true, false, not, if◌then◌else◌, ltb, List, [], ◌∷◌, length, Option, is_none, ℤ}
 use Rattle.std.specs.List.{flat_map}
 use Rattle.std.specs.Option.{option_map_or}
 use Rattle.os_ast.specs.Limits.{is_size, elements_limit, arrays_limit, streams_limit, items_limit, captured_limit}
@@ -44,16 +44,6 @@ abbrev pub has_index : Shape → Bool
 has_index shape.Bare = false
 has_index shape.Indexed = true
 
--- a scalar, an element, a constant, `osin_len` or a single stream
-abbrev pub is_single : Entity → Bool
-is_single (entity.Constant v) = true
-is_single (entity.Scalar slot) = true
-is_single (entity.Control slot) = true
-is_single entity.InputLength = true
-is_single (entity.Element item d) = true
-is_single (entity.Stream number) = true
-is_single _ = false
-
 -- a local array, a view or an array of streams
 abbrev pub is_array : Entity → Bool
 is_array (entity.Array first size) = true
@@ -73,6 +63,10 @@ is_stream _ = false
 abbrev pub is_a_window : Entity → Bool
 is_a_window (entity.Window slot) = true
 is_a_window _ = false
+
+-- a scalar, an element, a constant, `osin_len` or a single stream: what is left
+abbrev pub is_single : Entity → Bool
+is_single e = not (is_array e || is_function e || is_a_window e)
 
 -- a scalar that is declared in the control program
 abbrev pub is_control : Entity → Bool
@@ -154,14 +148,13 @@ abbrev pub is_outside_a_loop : Note → Bool
 is_outside_a_loop (Left s m) = not s.loop
 is_outside_a_loop _ = false
 
--- directly in the outermost block of `main`, whose scope stands in the one that holds `osin`, in that of the file
-abbrev pub is_outermost : Owner → ℕ → Bool
-is_outermost owner.OfMain depth = depth == 2
-is_outermost _ depth = false
-
 abbrev pub is_main_body : Owner → Bool
 is_main_body owner.OfMain = true
 is_main_body _ = false
+
+-- directly in the outermost block of `main`, whose scope stands in the one that holds `osin`, in that of the file
+abbrev pub is_outermost : Owner → ℕ → Bool
+is_outermost o depth = is_main_body o && depth == 2
 
 -- 17: a pragma outside `main` or inside a task; a stream anywhere but directly in the outermost block of `main`
 abbrev pub is_misplaced : Note → Bool
@@ -213,8 +206,7 @@ is_misplaced_window id u e = is_a_window e
 
 -- the rule, where it is violated
 abbrev pub when : Bool → Rule → List Rule
-when true r = r ∷ []
-when false r = []
+when holds r = if holds then r ∷ [] else []
 
 -- a rule with its test
 pub record RuleTest : Type 0 where

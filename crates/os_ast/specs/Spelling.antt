@@ -1,6 +1,6 @@
 -- The tokens that spell a program, production by production. The smallest parts come first, since each
 -- definition stands on those above it; the alternatives of a production keep its order.
-use Rattle.std.specs.Prelude.{ℕ, Bool, true, false, List, [], ◌∷◌, Option, map}
+use Rattle.std.specs.Prelude.{ℕ, Bool, if◌then◌else◌, List, [], ◌∷◌, Option, map}
 use Rattle.std.specs.Option.{option_map_or}
 use Rattle.os_ast.specs.Operators.{unary_mark, binary_mark, assign_mark, step_mark}
 use Rattle.os_ast.specs.Trees as tree
@@ -160,8 +160,7 @@ first_value e = punct puncts.Set ⨾ expr e
 
 -- "__attribute__" "(" "(" "stream" ")" ")"
 abbrev pub attribute : Bool → Printer
-attribute false = nothing
-attribute true = key keys.Attribute ⨾ in_parens (in_parens (word stream_id))
+attribute is_stream = if is_stream then key keys.Attribute ⨾ in_parens (in_parens (word stream_id)) else nothing
 
 -- declr = name [ "=" expr ] | name "[" expr "]"
 --       | name [ "[" expr "]" ] "__attribute__" "(" "(" "stream" ")" ")"
@@ -208,8 +207,7 @@ clause_kind (tree.Firstprivate names) = word firstprivate_id ⨾ in_parens (list
 
 -- [ "," ]
 abbrev pub comma : Bool → Printer
-comma false = nothing
-comma true = punct puncts.Comma
+comma is_there = if is_there then punct puncts.Comma else nothing
 
 -- [ "," ] clause
 abbrev pub clause : tree.ClauseTree → Printer
@@ -255,13 +253,11 @@ abbrev mutual
 
 -- [ "-" ]
 abbrev pub sign : Bool → Printer
-sign false = nothing
-sign true = punct puncts.Minus
+sign minus = if minus then punct puncts.Minus else nothing
 
 -- the number of a constant, which is wide or isn't
 abbrev pub numeral : Bool → ℕ → Printer
-numeral false n = number n
-numeral true n = wide n
+numeral is_wide n = if is_wide then wide n else number n
 
 -- constant = "const" type name "=" [ "-" ] number ";"
 abbrev pub constant : Constant → Printer

@@ -16,16 +16,16 @@ use Rattle.os_lexer.proofs.MarkSpellings.{length-spelling}
 
 -- every form has at least one byte
 pub form_nonempty : (f : Form) (s : List ℕ) → IsForm f s → 0 < length s
-form_nonempty form.Space s p = omega (arith, p.single)
+form_nonempty form.Space s p = omega (arith, p.0)
 form_nonempty form.JoinedLine s p = ⊎_elim (λ e. omega (arith, ap length e)) (λ e. omega (arith, ap length e)) p
-form_nonempty form.LineComment s p = omega (arith, p.opened.within)
-form_nonempty form.BlockComment s p = omega (arith, p.opened.within)
-form_nonempty form.OpenComment s p = omega (arith, p.opened.within)
+form_nonempty form.LineComment s p = omega (arith, p.0.within)
+form_nonempty form.BlockComment s p = omega (arith, p.0.within)
+form_nonempty form.OpenComment s p = omega (arith, p.0.within)
 form_nonempty form.IncludeLine s p = omega (arith, p.hash.behind, p.hash.within)
-form_nonempty form.PragmaStart s p = omega (arith, p.hash.behind, p.hash.within)
-form_nonempty form.OtherDirective s p = omega (arith, p.hash.behind, p.hash.within)
+form_nonempty form.PragmaStart s p = omega (arith, p.1.behind, p.1.within)
+form_nonempty form.OtherDirective s p = omega (arith, p.1.behind, p.1.within)
 form_nonempty form.Word s p = p.run.0
-form_nonempty form.Number s p = p.run.0
+form_nonempty form.Number s p = p.0.0
 form_nonempty (form.Mark m) s p = omega (arith, ap length p, (length-spelling m).0)
 
 module _ (rest : List ℕ) where

@@ -65,7 +65,7 @@ number_owes mode n s (Some v) some =
 
 -- `#pragma` has more than one byte
 pragma_long : (s : List ℕ) → IsForm form.PragmaStart s → 2 ≤ length s
-pragma_long s p = omega (arith, p.hash.behind, p.hash.within, ap length p.named, length-drop p.name_at s)
+pragma_long s p = omega (arith, p.1.behind, p.1.within, ap length p.2, length-drop p.0 s)
 
 effect_owes : (mode : Mode) (name n : ℕ) (f : Form) (s : List ℕ) → 0 < n → length s ≡ n → IsForm f s → OwesNoMore (owed mode) n (effect mode name f s)
 effect_owes mode name n form.Space s some long p = space_owes mode n s some

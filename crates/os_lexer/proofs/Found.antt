@@ -77,7 +77,7 @@ module _ (bytes : List ℕ) (nonempty : 0 < length bytes) where
   finds-white white = record {
     some = omega arith;
     within = omega arith;
-    of_form = record { single = front_length 1 (omega arith); white = ap is_white (front_at 1 0 (omega arith)) ∙ white };
+    of_form = (front_length 1 (omega arith), ap is_white (front_at 1 0 (omega arith)) ∙ white);
   }
 
   -- the bytes to the end of a run from its second byte on
@@ -108,7 +108,7 @@ module _ (bytes : List ℕ) (nonempty : 0 < length bytes) where
       record {
         some = omega (arith, first.low);
         within = first.high;
-        of_form = record { run = run_to (digit_is_word_byte (slice_index bytes 0) digit); begins = ap is_digit (front_at (run_end bytes 1) 0 (omega (arith, first.low))) ∙ digit };
+        of_form = (run_to (digit_is_word_byte (slice_index bytes 0) digit), ap is_digit (front_at (run_end bytes 1) 0 (omega (arith, first.low))) ∙ digit);
       }
 
   finds-backslash : slice_index bytes 0 ≡ 92 → Finds bytes (joined_line_at bytes)
@@ -161,15 +161,15 @@ module _ (bytes : List ℕ) (nonempty : 0 < length bytes) where
       record {
         some = omega (arith, line.low);
         within = line.high;
-        of_form = record {
-          opened = pair_at_front n 47 line.high line.low first second;
-          on_line = λ i below feed.
+        of_form = (
+          pair_at_front n 47 line.high line.low first second,
+          λ i below feed.
               let inside : i < n = omega (arith, front_length n line.high) in
               ⊎_elim
               (λ early. absurd (early_feed bytes i early first second (sym (front_at n i inside) ∙ feed)))
               (λ late. joined_from n i inside (line.before i late inside) feed)
-              (cases_lt i 2);
-        };
+              (cases_lt i 2),
+        );
       }
 
   -- a `*/` at a point of the bytes is within them
@@ -206,14 +206,14 @@ module _ (bytes : List ℕ) (nonempty : 0 < length bytes) where
       record {
         some = omega arith;
         within = fits;
-        of_form = record {
-          opened = pair_at_front (end + 2) 42 fits (omega arith) first second;
-          closed = (end, search_is.low, closes_in_front (end + 2) end fits (omega arith) passes);
-          next = λ i low pair. ⊎_elim
+        of_form = (
+          pair_at_front (end + 2) 42 fits (omega arith) first second,
+          (end, search_is.low, closes_in_front (end + 2) end fits (omega arith) passes),
+          λ i low pair. ⊎_elim
               (λ early. absurd (false≢true (sym (search_is.before i low early) ∙ closes_from_front (end + 2) i fits pair)))
               (λ late. omega (arith, late, pair.within, s_length))
-              (cases_lt i end);
-        };
+              (cases_lt i end),
+        );
       })
       (λ not_below.
       let over : length bytes ≤ end = ltb-false _ _ not_below in
@@ -221,10 +221,10 @@ module _ (bytes : List ℕ) (nonempty : 0 < length bytes) where
       record {
         some = omega arith;
         within = omega arith;
-        of_form = record {
-          opened = pair_at_front (length bytes) 42 (omega arith) long first second;
-          never_closed = λ i low pair. false≢true (sym (search_is.before i low (omega (arith, pair.within, s_length, over))) ∙ closes_from_front (length bytes) i (omega arith) pair);
-        };
+        of_form = (
+          pair_at_front (length bytes) 42 (omega arith) long first second,
+          λ i low pair. false≢true (sym (search_is.before i low (omega (arith, pair.within, s_length, over))) ∙ closes_from_front (length bytes) i (omega arith) pair),
+        );
       })
 
   finds-slash : slice_index bytes 0 ≡ 47 → Finds bytes (slash_at bytes)
@@ -327,20 +327,20 @@ module _ (bytes : List ℕ) (nonempty : 0 < length bytes) where
         (λ is_pragma. record {
           some = omega arith;
           within = the_run.high;
-          of_form = record { name_at = k; hash = hash_to e the_run.low the_run.high; named = sym same_name ∙ (bytes_eq-Decides _ _).0 is_pragma };
+          of_form = (k, hash_to e the_run.low the_run.high, sym same_name ∙ (bytes_eq-Decides _ _).0 is_pragma);
         })
         (λ no_pragma. cond_both (bytes_eq (slice_range bytes k e) (codes "include")) (lexeme form.IncludeLine (line_end bytes e)) (lexeme form.OtherDirective e) (IsFound bytes)
         (λ is_include. finds-include ((bytes_eq-Decides _ _).0 is_include))
         (λ no_include. record {
           some = omega arith;
           within = the_run.high;
-          of_form = record {
-            name_at = k;
-            hash = hash_to e the_run.low the_run.high;
-            named = name_word;
-            no_pragma = λ same. false≢true (sym no_pragma ∙ (bytes_eq-Decides _ _).1 (same_name ∙ same));
-            no_include = λ same. false≢true (sym no_include ∙ (bytes_eq-Decides _ _).1 (same_name ∙ same));
-          };
+          of_form = (
+            k,
+            hash_to e the_run.low the_run.high,
+            name_word,
+            λ same. false≢true (sym no_pragma ∙ (bytes_eq-Decides _ _).1 (same_name ∙ same)),
+            λ same. false≢true (sym no_include ∙ (bytes_eq-Decides _ _).1 (same_name ∙ same)),
+          );
         }))
 
   finds-hash : slice_index bytes 0 ≡ 35 → Finds bytes (directive_at bytes)

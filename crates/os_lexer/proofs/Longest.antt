@@ -9,7 +9,7 @@ use Rattle.std.proofs.lemmas.Slice.{between_is}
 use Rattle.std.specs.Prelude.{slice_index, slice_range, nat_lt, ◌==◌}
 use Rattle.os_lexer.specs.Bytes.{is_white, is_blank, is_letter, is_digit, is_word_byte, IsPairAt}
 use Rattle.os_lexer.specs.Lines.{EndsJoinedLine, StaysOnLine}
-use Rattle.os_lexer.specs.Forms.{IsSpace, IsJoinedLine, IsLineComment, IsBlockComment, IsOpenComment, IsRun, IsWord, IsNumberRun, IsHashTo, IsIncludeLine, IsPragmaStart, IsOtherDirective, IsForm}
+use Rattle.os_lexer.specs.Forms.{IsRun, IsWord, IsHashTo, IsIncludeLine, IsForm}
 use Rattle.os_lexer.specs.Marks.{mark_spelling}
 use Rattle.os_lexer.specs.Reading.{class_of, ends_run, ends_blanks, ends_line, is_joined, closes, run_end, blanks_end, line_end, comment_end, lexeme, joined_line_at, mark_at, comment_at, slash_at, named_directive, directive_at, lexeme_of, lexeme_at}
 use Rattle.os_lexer.specs.declared.bytes.Class.{Class}
@@ -139,10 +139,10 @@ module _ (bytes : List ℕ) (m : ℕ) (within : m ≤ length bytes) where
   front_at : (i : ℕ) → i < m → slice_index (take m bytes) i ≡ slice_index bytes i
   front_at i below = get_or-take m bytes i 0 below
 
-  longest-space : IsSpace (take m bytes) → FindsAtLeast (lexeme_at bytes) m (lexeme form.Space m)
+  longest-space : IsForm form.Space (take m bytes) → FindsAtLeast (lexeme_at bytes) m (lexeme form.Space m)
   longest-space s =
-      let one : m ≡ 1 = sym front_length ∙ s.single in
-      let white : is_white (slice_index bytes 0) ≡ true = ap is_white (sym (front_at 0 (omega arith))) ∙ s.white in
+      let one : m ≡ 1 = sym front_length ∙ s.0 in
+      let white : is_white (slice_index bytes 0) ≡ true = ap is_white (sym (front_at 0 (omega arith))) ∙ s.1 in
       found_longer _ form.Space m 1 (lexeme_at-of_class bytes White (class_of-white (slice_index bytes 0) white)) (omega arith)
 
   longest-run : (form : Form) → IsRun (take m bytes) → lexeme_at bytes ≡ Some (lexeme form (run_end bytes 1)) → FindsAtLeast (lexeme_at bytes) m (lexeme form m)
@@ -159,11 +159,11 @@ module _ (bytes : List ℕ) (m : ℕ) (within : m ≤ length bytes) where
       let begins : is_letter (slice_index bytes 0) ≡ true = ap is_letter (sym (front_at 0 some)) ∙ s.begins in
       longest-run form.Word s.run (lexeme_at-of_class bytes Letter (class_of-letter (slice_index bytes 0) begins))
 
-  longest-number : IsNumberRun (take m bytes) → FindsAtLeast (lexeme_at bytes) m (lexeme form.Number m)
+  longest-number : IsForm form.Number (take m bytes) → FindsAtLeast (lexeme_at bytes) m (lexeme form.Number m)
   longest-number s =
-      let some : 0 < m = omega (arith, s.run.0, front_length) in
-      let begins : is_digit (slice_index bytes 0) ≡ true = ap is_digit (sym (front_at 0 some)) ∙ s.begins in
-      longest-run form.Number s.run (lexeme_at-of_class bytes Digit (class_of-digit (slice_index bytes 0) begins))
+      let some : 0 < m = omega (arith, s.0.0, front_length) in
+      let begins : is_digit (slice_index bytes 0) ≡ true = ap is_digit (sym (front_at 0 some)) ∙ s.1 in
+      longest-run form.Number s.0 (lexeme_at-of_class bytes Digit (class_of-digit (slice_index bytes 0) begins))
 
   -- a slice that is known byte by byte
   known_at : (s : List ℕ) → take m bytes ≡ s → (i : ℕ) → i < length s → slice_index bytes i ≡ slice_index s i
@@ -191,7 +191,7 @@ module _ (bytes : List ℕ) (m : ℕ) (within : m ≤ length bytes) where
       found_longer _ form.JoinedLine m 3
       (lexeme_at-of_class bytes Backslash (ap class_of first) ∙ cond-false (slice_index bytes 1 == 10) _ _ (ap (λ b. b == 10) second) ∙ ap₂ (λ a b. cond (a == 13 && b == 10) (Some (lexeme form.JoinedLine 3)) None) second third) (omega arith)
 
-  longest-joined : IsJoinedLine (take m bytes) → FindsAtLeast (lexeme_at bytes) m (lexeme form.JoinedLine m)
+  longest-joined : IsForm form.JoinedLine (take m bytes) → FindsAtLeast (lexeme_at bytes) m (lexeme form.JoinedLine m)
   longest-joined s = ⊎_elim longest-joined_short longest-joined_long s
 
   -- the two bytes at the front
@@ -223,13 +223,13 @@ module _ (bytes : List ℕ) (m : ℕ) (within : m ≤ length bytes) where
   at_slash : slice_index bytes 0 ≡ 47 → lexeme_at bytes ≡ slash_at bytes
   at_slash e = lexeme_at-of_class bytes Slash (ap class_of e)
 
-  longest-line_comment : IsLineComment (take m bytes) → FindsAtLeast (lexeme_at bytes) m (lexeme form.LineComment m)
+  longest-line_comment : IsForm form.LineComment (take m bytes) → FindsAtLeast (lexeme_at bytes) m (lexeme form.LineComment m)
   unfolding slash_at
   longest-line_comment s =
-      let two : 2 ≤ m = omega (arith, s.opened.within, front_length) in
-      let second : slice_index bytes 1 ≡ 47 = pair_second 47 47 s.opened in
-      let passes : m ≤ line_end bytes 2 = IsFirst-passes (line_end-first bytes 2 (omega arith)) m within (λ i low high. stays_here s.on_line i high) in
-      found_longer _ form.LineComment m _ (at_slash (pair_first 47 47 s.opened) ∙ cond-true (slice_index bytes 1 == 47) _ _ (eq-eqb _ _ second)) passes
+      let two : 2 ≤ m = omega (arith, s.0.within, front_length) in
+      let second : slice_index bytes 1 ≡ 47 = pair_second 47 47 s.0 in
+      let passes : m ≤ line_end bytes 2 = IsFirst-passes (line_end-first bytes 2 (omega arith)) m within (λ i low high. stays_here s.1 i high) in
+      found_longer _ form.LineComment m _ (at_slash (pair_first 47 47 s.0) ∙ cond-true (slice_index bytes 1 == 47) _ _ (eq-eqb _ _ second)) passes
 
   at_comment : IsPairAt (take m bytes) 0 47 42 → lexeme_at bytes ≡ Some (comment_at bytes)
   unfolding slash_at
@@ -254,36 +254,36 @@ module _ (bytes : List ℕ) (m : ℕ) (within : m ≤ length bytes) where
         second = front_at (i + 1) (omega arith) ∙ second;
       }
 
-  longest-block_comment : IsBlockComment (take m bytes) → FindsAtLeast (lexeme_at bytes) m (lexeme form.BlockComment m)
+  longest-block_comment : IsForm form.BlockComment (take m bytes) → FindsAtLeast (lexeme_at bytes) m (lexeme form.BlockComment m)
   unfolding comment_at
   longest-block_comment s =
-      let end = s.closed.0 in
-      let ends : end + 2 ≡ m = s.next end s.closed.1 s.closed.2 ∙ front_length in
-      let low : 2 ≤ end = s.closed.1 in
+      let end = s.1.0 in
+      let ends : end + 2 ≡ m = s.2 end s.1.1 s.1.2 ∙ front_length in
+      let low : 2 ≤ end = s.1.1 in
       let open_until : (i : ℕ) → 2 ≤ i → i < end → closes bytes i ≡ false = λ i from below. false_from_ne_true _ (λ e.
-      let same : i + 2 ≡ m = s.next i from (closes_to i (omega arith) e) ∙ front_length in omega arith)
+      let same : i + 2 ≡ m = s.2 i from (closes_to i (omega arith) e) ∙ front_length in omega arith)
       in
-      let end_is : comment_end bytes 2 ≡ end = IsFirst-is (comment_end-first bytes 2 (omega arith)) end low (omega arith) open_until (closes_from end s.closed.2) in
+      let end_is : comment_end bytes 2 ≡ end = IsFirst-is (comment_end-first bytes 2 (omega arith)) end low (omega arith) open_until (closes_from end s.1.2) in
       found_longer _ form.BlockComment m (comment_end bytes 2 + 2)
-      (at_comment s.opened ∙ ap Some (cond-true (nat_lt (comment_end bytes 2) (length bytes)) _ _ (lt-ltb _ _ (omega arith)))) (omega arith)
+      (at_comment s.0 ∙ ap Some (cond-true (nat_lt (comment_end bytes 2) (length bytes)) _ _ (lt-ltb _ _ (omega arith)))) (omega arith)
 
-  longest-open_comment : IsOpenComment (take m bytes) → FindsAtLeast (lexeme_at bytes) m (lexeme form.OpenComment m)
+  longest-open_comment : IsForm form.OpenComment (take m bytes) → FindsAtLeast (lexeme_at bytes) m (lexeme form.OpenComment m)
   unfolding comment_at
   longest-open_comment s =
-      let two : 2 ≤ m = omega (arith, s.opened.within, front_length) in
+      let two : 2 ≤ m = omega (arith, s.0.within, front_length) in
       let first = comment_end-first bytes 2 (omega arith) in
       let end = comment_end bytes 2 in
       ⊎_elim
       (λ closed.
-      let later : m < end + 2 = ⊎_elim (λ l. l) (λ early. absurd (s.never_closed end first.low (closes_to end early (first.here closed)))) (cases_lt m (end + 2)) in
+      let later : m < end + 2 = ⊎_elim (λ l. l) (λ early. absurd (s.1 end first.low (closes_to end early (first.here closed)))) (cases_lt m (end + 2)) in
       record {
         lexeme_found = lexeme form.BlockComment (end + 2);
-        is_found = at_comment s.opened ∙ ap Some (cond-true (nat_lt end (length bytes)) _ _ (lt-ltb _ _ closed));
+        is_found = at_comment s.0 ∙ ap Some (cond-true (nat_lt end (length bytes)) _ _ (lt-ltb _ _ closed));
         as_long = omega arith;
         same = λ e. absurd (omega (arith, e));
       })
       (λ open_to_end. found_longer _ form.OpenComment m (length bytes)
-      (at_comment s.opened ∙ ap Some (cond-false (nat_lt end (length bytes)) _ _ (le-ltb end (length bytes) open_to_end))) within)
+      (at_comment s.0 ∙ ap Some (cond-false (nat_lt end (length bytes)) _ _ (le-ltb end (length bytes) open_to_end))) within)
       (cases_lt end (length bytes))
 
   -- what a `#` begins: the blanks end at point k, where a word begins
@@ -334,25 +334,25 @@ module _ (bytes : List ℕ) (m : ℕ) (within : m ≤ length bytes) where
       (λ over. let e : run_end bytes k ≡ m = omega (arith, over, reaches) in found_longer _ form m m (is_found ∙ ap Some (at_end e)) (omega arith))
       (cases_lt m (run_end bytes k))
 
-  longest-pragma_start : IsPragmaStart (take m bytes) → FindsAtLeast (lexeme_at bytes) m (lexeme form.PragmaStart m)
+  longest-pragma_start : IsForm form.PragmaStart (take m bytes) → FindsAtLeast (lexeme_at bytes) m (lexeme form.PragmaStart m)
   unfolding named_directive
   longest-pragma_start s =
-      let k = s.name_at in
-      let low : k ≤ m = omega (arith, s.hash.within, front_length) in
-      let word : IsWord (drop k (take m bytes)) = subst IsWord (sym s.named) pragma_word in
-      finds_directive k form.PragmaStart low (at_hash k s.hash (word_some k low word) (word_letter k low word)) (word_reaches k low word)
-      (λ e. cond-true (bytes_eq (slice_range bytes k (run_end bytes k)) (codes "pragma")) _ _ (ap (λ n. bytes_eq n (codes "pragma")) (name_is k e ∙ s.named)) ∙ ap (lexeme form.PragmaStart) e)
+      let k = s.0 in
+      let low : k ≤ m = omega (arith, s.1.within, front_length) in
+      let word : IsWord (drop k (take m bytes)) = subst IsWord (sym s.2) pragma_word in
+      finds_directive k form.PragmaStart low (at_hash k s.1 (word_some k low word) (word_letter k low word)) (word_reaches k low word)
+      (λ e. cond-true (bytes_eq (slice_range bytes k (run_end bytes k)) (codes "pragma")) _ _ (ap (λ n. bytes_eq n (codes "pragma")) (name_is k e ∙ s.2)) ∙ ap (lexeme form.PragmaStart) e)
 
-  longest-other_directive : IsOtherDirective (take m bytes) → FindsAtLeast (lexeme_at bytes) m (lexeme form.OtherDirective m)
+  longest-other_directive : IsForm form.OtherDirective (take m bytes) → FindsAtLeast (lexeme_at bytes) m (lexeme form.OtherDirective m)
   unfolding named_directive
   longest-other_directive s =
-      let k = s.name_at in
-      let low : k ≤ m = omega (arith, s.hash.within, front_length) in
-      let word = s.named in
-      finds_directive k form.OtherDirective low (at_hash k s.hash (word_some k low word) (word_letter k low word)) (word_reaches k low word)
+      let k = s.0 in
+      let low : k ≤ m = omega (arith, s.1.within, front_length) in
+      let word = s.2 in
+      finds_directive k form.OtherDirective low (at_hash k s.1 (word_some k low word) (word_letter k low word)) (word_reaches k low word)
       (λ e.
-      let no_pragma = false_from_ne_true (bytes_eq (slice_range bytes k (run_end bytes k)) (codes "pragma")) (λ t. s.no_pragma (sym (name_is k e) ∙ (bytes_eq-Decides _ _).0 t)) in
-      let no_include = false_from_ne_true (bytes_eq (slice_range bytes k (run_end bytes k)) (codes "include")) (λ t. s.no_include (sym (name_is k e) ∙ (bytes_eq-Decides _ _).0 t)) in
+      let no_pragma = false_from_ne_true (bytes_eq (slice_range bytes k (run_end bytes k)) (codes "pragma")) (λ t. s.3 (sym (name_is k e) ∙ (bytes_eq-Decides _ _).0 t)) in
+      let no_include = false_from_ne_true (bytes_eq (slice_range bytes k (run_end bytes k)) (codes "include")) (λ t. s.4 (sym (name_is k e) ∙ (bytes_eq-Decides _ _).0 t)) in
       cond-false _ _ _ no_pragma ∙ cond-false _ _ _ no_include ∙ ap (lexeme form.OtherDirective) e)
 
   -- the word `include` behind the hash

@@ -215,7 +215,7 @@ give_mode mode m name form.IncludeLine s k p e = include_gives mode m s k e
 give_mode mode m name form.PragmaStart s k p e = pragma_gives mode m s k e
 give_mode mode m name form.OtherDirective s k p e = absurd (cc e)
 give_mode mode m name form.Word s k p e = gives_along e (plain (word_opens (key_of s) name) (run_unfeed s p.run))
-give_mode mode m name form.Number s k p e = number_gives mode m s k (number_value s) (run_unfeed s p.run) e
+give_mode mode m name form.Number s k p e = number_gives mode m s k (number_value s) (run_unfeed s p.0) e
 give_mode mode m name (form.Mark mark) s k p e = gives_along e (plain (λ b. refl) (ap (list_any is_line_feed) p ∙ mark_unfeed mark))
 
 module _ (text : List ℕ) where
@@ -257,22 +257,21 @@ module _ (text : List ℕ) where
   longer_comment rest n inside c apart =
       let short : length (take n rest) ≡ n = length-take-le n rest (omega arith) in
       let long : length (take (n + 1) rest) ≡ n + 1 = length-take-le (n + 1) rest (omega arith) in
-      let two : 2 ≤ n = omega (arith, c.opened.within, short) in
+      let two : 2 ≤ n = omega (arith, c.0.within, short) in
       let same : (i : ℕ) → i < n → slice_index (take (n + 1) rest) i ≡ slice_index (take n rest) i = λ i low. get_or-take (n + 1) rest i 0
-      (omega arith) ∙ sym (get_or-take n rest i 0 low) in
-      record {
-        opened = record { within = omega arith; first = same 0 (omega arith) ∙ c.opened.first; second = same 1 (omega arith) ∙ c.opened.second };
-        on_line = λ i below feed. ⊎_elim
+      (omega arith) ∙ sym (get_or-take n rest i 0 low) in (
+        record { within = omega arith; first = same 0 (omega arith) ∙ c.0.first; second = same 1 (omega arith) ∙ c.0.second },
+        λ i below feed. ⊎_elim
             (λ low. ⊎_elim
             (λ slash. inl (same (i - 1) (omega arith) ∙ slash))
             (λ return. inr (same (i - 1) (omega arith) ∙ return.0, same (i - 2) (omega arith) ∙ return.1))
-            (c.on_line i (omega (arith, low, short)) (sym (same i low) ∙ feed)))
+            (c.1 i (omega (arith, low, short)) (sym (same i low) ∙ feed)))
             (λ over. let last : i ≡ n = omega (arith, over, below, long) in
             let byte : slice_index rest n ≡ 10 = sym (get_or-take (n + 1) rest n 0 (omega arith)) ∙ ap (λ j. slice_index (take (n + 1) rest) j)
             (sym last) ∙ feed in
             absurd (false≢true (sym apart ∙ ap (λ b. b == 10) byte)))
-            (cases_lt i n);
-      }
+            (cases_lt i n),
+      )
 
   comment_feed : (at n : ℕ) → IsLexeme (drop at text) form.LineComment n → IsAtFeed (at + n)
   comment_feed at n is_lexeme inside =

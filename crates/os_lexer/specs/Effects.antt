@@ -1,6 +1,7 @@
 -- What a lexeme of a text does: it is skipped, is a token, or is a fault. One row for each form.
 use Rattle.std.specs.Prelude.{ℕ, ◌&&◌, List, Option, Some, None, nat_le, if◌then◌else◌}
 use Rattle.std.specs.List.{list_any}
+use Rattle.std.specs.Option.{option_map_or}
 use Rattle.os_lexer.specs.Bytes.{is_line_feed}
 use Rattle.os_lexer.specs.Keywords.{key_of}
 use Rattle.os_lexer.specs.Numbers.{may_be_int, may_be_unsigned, number_value}
@@ -46,15 +47,12 @@ directive_effect _ effect = Fail fault.BadByte
 -- `unsigned` at most 4,294,967,295, and a number that fits no type that it may have is a big number.
 abbrev pub number_effect : Mode → List ℕ → Option ℕ → Effect
 number_effect mode run None = Fail fault.BadByte
-number_effect mode run (Some value) =
-    if may_be_int run && nat_le value 2147483647 then Give (kind.Number value) (mode_after_token mode)
-    else (if may_be_unsigned run && nat_le value 4294967295 then Give (kind.Wide value) (mode_after_token mode)
-    else Fail fault.BigNumber)
+number_effect mode run (Some value) = if may_be_int run && nat_le value 2147483647 then Give (kind.Number value) (mode_after_token mode)
+    else (if may_be_unsigned run && nat_le value 4294967295 then Give (kind.Wide value) (mode_after_token mode) else Fail fault.BigNumber)
 
 -- a word that is no keyword is a name
 abbrev pub word_kind : Option Key → ℕ → Kind
-word_kind None name = kind.Name name
-word_kind (Some key) name = kind.Key key
+word_kind key name = option_map_or kind.Key key (kind.Name name)
 
 -- What the slice s of a form does at a point of this mode. As a name it has the number given.
 abbrev pub effect : Mode → ℕ → Form → List ℕ → Effect

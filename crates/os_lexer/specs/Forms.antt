@@ -7,32 +7,6 @@ use Rattle.os_lexer.specs.Marks.{mark_spelling}
 use Rattle.os_lexer.specs.declared.form.Form.{Form}
 use Rattle.os_lexer.specs.declared.form.Form.TheVariants as form
 
--- one byte of white space (C11, 6.4, paragraph 3)
-pub record IsSpace (s : List ℕ) : Type 0 where
-  pub single : length s ≡ 1
-  pub white : IsTrue (is_white (slice_index s 0))
-
--- A backslash followed at once by a line feed, or by a carriage return and a line feed. C11, 5.1.1.2, takes it out
--- before there are tokens; here it is white space, so that no token goes on behind it.
-abbrev pub IsJoinedLine : List ℕ → Type 0
-IsJoinedLine s = (s ≡ 92 ∷ 10 ∷ []) ⊎ (s ≡ 92 ∷ 13 ∷ 10 ∷ [])
-
--- `//` to the line's end, which a joined line isn't (C11, 6.4.9)
-pub record IsLineComment (s : List ℕ) : Type 0 where
-  pub opened : IsPairAt s 0 47 47
-  pub on_line : StaysOnLine s
-
--- `/*` to the next `*/`, which comes after the whole `/*` (C11, 6.4.9)
-pub record IsBlockComment (s : List ℕ) : Type 0 where
-  pub opened : IsPairAt s 0 47 42
-  pub closed : (i : ℕ) × (2 ≤ i) × IsPairAt s i 42 47
-  pub next : (i : ℕ) → 2 ≤ i → IsPairAt s i 42 47 → i + 2 ≡ length s
-
--- `/*` with no `*/` after it
-pub record IsOpenComment (s : List ℕ) : Type 0 where
-  pub opened : IsPairAt s 0 47 42
-  pub never_closed : (i : ℕ) → 2 ≤ i → IsPairAt s i 42 47 → ⊥
-
 -- a run of letters, digits and `_`
 abbrev pub IsRun : List ℕ → Type 0
 IsRun s = (0 < length s) × EachIndex s (λ i. IsTrue (is_word_byte (slice_index s i)))
@@ -41,11 +15,6 @@ IsRun s = (0 < length s) × EachIndex s (λ i. IsTrue (is_word_byte (slice_index
 pub record IsWord (s : List ℕ) : Type 0 where
   pub run : IsRun s
   pub begins : IsTrue (is_letter (slice_index s 0))
-
--- a run that begins with a digit: a number, or none (C11, 6.4.4.1)
-pub record IsNumberRun (s : List ℕ) : Type 0 where
-  pub run : IsRun s
-  pub begins : IsTrue (is_digit (slice_index s 0))
 
 -- `#`, and then spaces and tabs up to point k: the start of a directive (C11, 6.10)
 pub record IsHashTo (s : List ℕ) (k : ℕ) : Type 0 where
@@ -62,32 +31,30 @@ pub record IsIncludeLine (s : List ℕ) : Type 0 where
   pub whole_word : name_at + 7 < length s → IsFalse (is_word_byte (slice_index s (name_at + 7)))
   pub on_line : StaysOnLine s
 
--- the slice from `#` to the end of the word `pragma`
-pub record IsPragmaStart (s : List ℕ) : Type 0 where
-  pub name_at : ℕ
-  pub hash : IsHashTo s name_at
-  pub named : drop name_at s ≡ codes "pragma"
-
--- the slice from `#` to the end of another word
-pub record IsOtherDirective (s : List ℕ) : Type 0 where
-  pub name_at : ℕ
-  pub hash : IsHashTo s name_at
-  pub named : IsWord (drop name_at s)
-  pub no_pragma : drop name_at s ≢ codes "pragma"
-  pub no_include : drop name_at s ≢ codes "include"
-
 -- the slice is of the form
 abbrev pub IsForm : Form → List ℕ → Type 0
-IsForm form.Space s = IsSpace s
-IsForm form.JoinedLine s = IsJoinedLine s
-IsForm form.LineComment s = IsLineComment s
-IsForm form.BlockComment s = IsBlockComment s
-IsForm form.OpenComment s = IsOpenComment s
+-- one byte of white space (C11, 6.4, paragraph 3)
+IsForm form.Space s = (length s ≡ 1) × IsTrue (is_white (slice_index s 0))
+-- A backslash followed at once by a line feed, or by a carriage return and a line feed. C11, 5.1.1.2, takes it out
+-- before there are tokens; here it is white space, so that no token goes on behind it.
+IsForm form.JoinedLine s = (s ≡ 92 ∷ 10 ∷ []) ⊎ (s ≡ 92 ∷ 13 ∷ 10 ∷ [])
+-- `//` to the line's end, which a joined line isn't (C11, 6.4.9)
+IsForm form.LineComment s = IsPairAt s 0 47 47 × StaysOnLine s
+-- `/*` to the next `*/`, which comes after the whole `/*` (C11, 6.4.9)
+IsForm form.BlockComment s =
+    IsPairAt s 0 47 42 × ((i : ℕ) × (2 ≤ i) × IsPairAt s i 42 47) × ((i : ℕ) → 2 ≤ i → IsPairAt s i 42 47 → i + 2 ≡ length s)
+-- `/*` with no `*/` after it
+IsForm form.OpenComment s = IsPairAt s 0 47 42 × ((i : ℕ) → 2 ≤ i → IsPairAt s i 42 47 → ⊥)
 IsForm form.IncludeLine s = IsIncludeLine s
-IsForm form.PragmaStart s = IsPragmaStart s
-IsForm form.OtherDirective s = IsOtherDirective s
+-- from `#` to the end of the word `pragma`
+IsForm form.PragmaStart s = (name_at : ℕ) × IsHashTo s name_at × (drop name_at s ≡ codes "pragma")
+-- from `#` to the end of another word
+IsForm form.OtherDirective s =
+    (name_at : ℕ) × IsHashTo s name_at × IsWord (drop name_at s) × (drop name_at s ≢ codes "pragma") × (drop name_at s ≢ codes "include")
 IsForm form.Word s = IsWord s
-IsForm form.Number s = IsNumberRun s
+-- a run that begins with a digit: a number, or none (C11, 6.4.4.1)
+IsForm form.Number s = IsRun s × IsTrue (is_digit (slice_index s 0))
+-- a mark, as it is spelled
 IsForm (form.Mark mark) s = s ≡ mark_spelling mark
 
 -- The first n bytes of rest are of the form, and no form is longer there.

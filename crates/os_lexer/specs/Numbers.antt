@@ -43,13 +43,10 @@ plain_value (b ∷ rest) = if b == 48 then value_after_zero rest else value_if_a
 abbrev pub has_suffix : List ℕ → Bool
 has_suffix run = slice_index run (length run - 1) == 117 || slice_index run (length run - 1) == 85
 
--- the run without its suffix
-abbrev pub without_suffix : List ℕ → List ℕ
-without_suffix run = if has_suffix run then take (length run - 1) run else run
-
--- A number may have that suffix, and no other one. The value of a run that begins with a digit, if it is a number.
+-- A number may have that suffix, and no other one. The value of a run that begins with a digit, if it is a number: it is that of
+-- the run without its suffix.
 abbrev pub number_value : List ℕ → Option ℕ
-number_value run = plain_value (without_suffix run)
+number_value run = plain_value (if has_suffix run then take (length run - 1) run else run)
 
 -- a number that doesn't begin with `0` is decimal
 abbrev pub is_decimal : List ℕ → Bool

@@ -40,10 +40,13 @@ limited v = option_and_then within_limit v
 abbrev pub size_of : Scope → tree.ExprTree → Option ℕ
 size_of s e = limited (size_value s e)
 
--- an array declaration of `main` outside tasks is a window, every other is a local array
+-- whether an array declaration is a window: of `main` outside tasks it is, every other is a local array
+abbrev pub is_window : Owner → Bool
+is_window owner.OfMain = true
+is_window _ = false
+
 abbrev pub sized_form : Owner → Option ℕ → Form
-sized_form owner.OfMain size = form_of.Window
-sized_form _ size = form_of.Array size
+sized_form o size = if is_window o then form_of.Window else form_of.Array size
 
 abbrev pub form_with : Scope → Bool → Option tree.IndexTree → Form
 form_with s false None = form_of.Scalar
@@ -86,11 +89,6 @@ taken s _ = record s { slots = s.slots + 1 }
 -- in scope from the end of the declarator, before its first value
 abbrev pub after_declarator : Scope → tree.DeclaratorTree → Scope
 after_declarator s d = declare (taken s (form s d)) d.name.id (declared_entity s d)
-
--- whether an array declaration is a window
-abbrev pub is_window : Owner → Bool
-is_window owner.OfMain = true
-is_window _ = false
 
 -- the name that a size is; any other expression there isn't looked into
 abbrev pub size_notes : Scope → tree.ExprTree → List Note
