@@ -1,6 +1,6 @@
 -- The rules, one after another by their codes, over what stands at a token. A token violates a rule where its test is
 -- true. 23 is a rule for the whole program, and stands with the violations.
-use Rattle.std.specs.Prelude.{ℕ, ◌==◌, ◌&&◌, ◌||◌, Bool, true, false, not, if◌then◌else◌, ltb, List, [], ◌∷◌, length, Option, is_none, ℤ}
+use Rattle.std.specs.Prelude.{ℕ, ◌==◌, ◌&&◌, ◌||◌, Bool, true, false, not, if◌then◌else◌, ltb, List, [], ◌∷◌, map, length, Option, is_none, ℤ}
 use Rattle.std.specs.List.{flat_map}
 use Rattle.std.specs.Option.{option_map_or}
 use Rattle.os_ast.specs.Limits.{is_size, elements_limit, arrays_limit, streams_limit, items_limit, captured_limit}
@@ -34,11 +34,6 @@ if_declared test e = option_map_or test e false
 abbrev pub violates : UseRule → Note → Bool
 violates rule (Used s n u) = if_declared (rule n.id u) (entity_of (lookup s.entries n.id))
 violates rule _ = false
-
--- 10: a name that is used has no declaration in scope
-abbrev pub is_unknown : Note → Bool
-is_unknown (Used s n u) = is_none (entity_of (lookup s.entries n.id))
-is_unknown _ = false
 
 abbrev pub has_index : Shape → Bool
 has_index shape.Bare = false
@@ -97,13 +92,6 @@ is_wrong_kind id (usage.Joined s) e =
 -- a `firstprivate` name is neither a scalar of the control program nor `osin_len`
 is_wrong_kind id usage.Private e = not (is_control e) && not (is_input_length e)
 
--- 12: a name is declared a second time in one scope
-abbrev pub is_declared_twice : Note → Bool
-is_declared_twice (Declared s d) = is_declared s d.name.id
-is_declared_twice (Given s p) = is_declared s p.name.id
-is_declared_twice (Global s n) = is_declared s n.id
-is_declared_twice _ = false
-
 -- 13: a call has another number of arguments than the function has parameters
 abbrev pub has_other_count : UseRule
 has_other_count id (usage.Called args) (entity.Function number params) = not (args == params)
@@ -112,12 +100,9 @@ has_other_count id u e = false
 -- an element or a view of an input item, a constant, `osin_len`, or a stream that is no element there
 abbrev pub is_fixed : Entity → Bool
 is_fixed (entity.Constant v) = true
-is_fixed entity.InputLength = true
-is_fixed (entity.Stream number) = true
-is_fixed (entity.Streams first count) = true
 is_fixed (entity.Element item direction.Reads) = true
 is_fixed (entity.View item direction.Reads) = true
-is_fixed _ = false
+is_fixed e = is_input_length e || is_stream e
 
 -- 14: a change of what may not be changed
 abbrev pub is_changed : UseRule
@@ -138,16 +123,6 @@ has_too_many s form_of.Stream = ltb streams_limit s.streams
 has_too_many s (form_of.Streams n) = ltb streams_limit s.streams
 has_too_many s _ = false
 
--- 15: the size is wrong, or with this declarator a limit is passed
-abbrev pub has_wrong_size : Note → Bool
-has_wrong_size (Declared s d) = has_no_size (form s d) (size_told s d.size) || has_too_many (after_declarator s d) (form s d)
-has_wrong_size _ = false
-
--- 16: `break` or `continue` outside a loop of the same function or task
-abbrev pub is_outside_a_loop : Note → Bool
-is_outside_a_loop (Left s m) = not s.loop
-is_outside_a_loop _ = false
-
 abbrev pub is_main_body : Owner → Bool
 is_main_body owner.OfMain = true
 is_main_body _ = false
@@ -156,21 +131,9 @@ is_main_body _ = false
 abbrev pub is_outermost : Owner → ℕ → Bool
 is_outermost o depth = is_main_body o && depth == 2
 
--- 17: a pragma outside `main` or inside a task; a stream anywhere but directly in the outermost block of `main`
-abbrev pub is_misplaced : Note → Bool
-is_misplaced (Pragma s m) = not (is_main_body s.owner)
-is_misplaced (Task s m items captured) = not (is_main_body s.owner)
-is_misplaced (Declared s d) = d.stream && not (is_outermost s.owner s.depth)
-is_misplaced _ = false
-
 abbrev pub is_task_body : Owner → Bool
 is_task_body owner.OfTask = true
 is_task_body _ = false
-
--- 18: `return` in a task
-abbrev pub returns_from_a_task : Note → Bool
-returns_from_a_task (Returned s m) = is_task_body s.owner
-returns_from_a_task _ = false
 
 -- 19: a stream is named where it is neither that of an item or a tick nor changed, which is 14
 abbrev pub is_misplaced_stream : UseRule
@@ -185,24 +148,48 @@ is_wrong_end id (usage.Place (role.Flow direction.Writes) s) (entity.Stream numb
 is_wrong_end id (usage.Place (role.Flow direction.Reads) s) (entity.Stream number) = number == 1
 is_wrong_end id u e = false
 
--- 21: a name stands a second time in the clauses of a task
-abbrev pub is_listed_twice : Note → Bool
-is_listed_twice (Listed before n) = is_in n.id before
-is_listed_twice _ = false
-
 -- more than 8 items, or more than 64 captured scalars
 abbrev pub takes_more : ℕ → ℕ → Bool
 takes_more items scalars = ltb items_limit items || ltb captured_limit scalars
-
--- 22: a task has too many items, or captures too many scalars
-abbrev pub takes_too_much : Note → Bool
-takes_too_much (Task s m items captured) = takes_more items (length captured)
-takes_too_much _ = false
 
 -- 24: a window is named outside an item's window
 abbrev pub is_misplaced_window : UseRule
 is_misplaced_window id (usage.Joined s) e = false
 is_misplaced_window id u e = is_a_window e
+
+-- whether what stands at a token violates a rule
+abbrev pub is_violated_by : Rule → Note → Bool
+-- 10: a name that is used has no declaration in scope
+is_violated_by rule.Unknown (Used s n u) = is_none (entity_of (lookup s.entries n.id))
+-- 11
+is_violated_by rule.WrongKind note = violates is_wrong_kind note
+-- 12: a name is declared a second time in one scope
+is_violated_by rule.DeclaredTwice (Declared s d) = is_declared s d.name.id
+is_violated_by rule.DeclaredTwice (Given s p) = is_declared s p.name.id
+is_violated_by rule.DeclaredTwice (Global s n) = is_declared s n.id
+-- 13 and 14
+is_violated_by rule.ArgumentCount note = violates has_other_count note
+is_violated_by rule.FixedChanged note = violates is_changed note
+-- 15: the size is wrong, or with this declarator a limit is passed
+is_violated_by rule.WrongSize (Declared s d) = has_no_size (form s d) (size_told s d.size) || has_too_many (after_declarator s d) (form s d)
+-- 16: `break` or `continue` outside a loop of the same function or task
+is_violated_by rule.OutsideLoop (Left s m) = not s.loop
+-- 17: a pragma outside `main` or inside a task; a stream anywhere but directly in the outermost block of `main`
+is_violated_by rule.Misplaced (Pragma s m) = not (is_main_body s.owner)
+is_violated_by rule.Misplaced (Task s m items captured) = not (is_main_body s.owner)
+is_violated_by rule.Misplaced (Declared s d) = d.stream && not (is_outermost s.owner s.depth)
+-- 18: `return` in a task
+is_violated_by rule.ReturnInTask (Returned s m) = is_task_body s.owner
+-- 19 and 20
+is_violated_by rule.MisplacedStream note = violates is_misplaced_stream note
+is_violated_by rule.WrongEnd note = violates is_wrong_end note
+-- 21: a name stands a second time in the clauses of a task
+is_violated_by rule.ListedTwice (Listed before n) = is_in n.id before
+-- 22: a task has too many items, or captures too many scalars
+is_violated_by rule.TaskLimit (Task s m items captured) = takes_more items (length captured)
+-- 24
+is_violated_by rule.MisplacedWindow note = violates is_misplaced_window note
+is_violated_by _ _ = false
 
 -- the rule, where it is violated
 abbrev pub when : Bool → Rule → List Rule
@@ -219,13 +206,10 @@ test r is_violated = record { rule = r; is_violated = is_violated }
 -- all rules for what stands at a token
 abbrev pub rules : List RuleTest
 rules =
-    test rule.Unknown is_unknown ∷ test rule.WrongKind (violates is_wrong_kind) ∷
-    test rule.DeclaredTwice is_declared_twice ∷ test rule.ArgumentCount (violates has_other_count) ∷
-    test rule.FixedChanged (violates is_changed) ∷ test rule.WrongSize has_wrong_size ∷
-    test rule.OutsideLoop is_outside_a_loop ∷ test rule.Misplaced is_misplaced ∷
-    test rule.ReturnInTask returns_from_a_task ∷ test rule.MisplacedStream (violates is_misplaced_stream) ∷
-    test rule.WrongEnd (violates is_wrong_end) ∷ test rule.ListedTwice is_listed_twice ∷
-    test rule.TaskLimit takes_too_much ∷ test rule.MisplacedWindow (violates is_misplaced_window) ∷ []
+    map (λ r. test r (is_violated_by r))
+    (rule.Unknown ∷ rule.WrongKind ∷ rule.DeclaredTwice ∷ rule.ArgumentCount ∷ rule.FixedChanged ∷ rule.WrongSize ∷
+    rule.OutsideLoop ∷ rule.Misplaced ∷ rule.ReturnInTask ∷ rule.MisplacedStream ∷ rule.WrongEnd ∷
+    rule.ListedTwice ∷ rule.TaskLimit ∷ rule.MisplacedWindow ∷ [])
 
 abbrev pub broken_among : List RuleTest → Note → List Rule
 broken_among ts n = flat_map (λ (t : RuleTest). when (t.is_violated n) t.rule) ts

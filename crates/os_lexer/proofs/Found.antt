@@ -301,20 +301,20 @@ module _ (bytes : List ℕ) (nonempty : 0 < length bytes) where
         record {
           some = omega (arith, line.low);
           within = line.high;
-          of_form = record {
-            name_at = k;
-            hash = hash_to n (omega (arith, line.low)) line.high;
-            named = name_is;
-            whole_word = λ inside.
+          of_form = (
+            k,
+            hash_to n (omega (arith, line.low)) line.high,
+            name_is,
+            λ inside.
                 let point : e ≡ k + 7 = omega arith in
-                ap is_word_byte (front_at n (k + 7) (omega arith) ∙ ap (λ j. slice_index bytes j) (sym point)) ∙ true_not (the_run.here (omega (arith, line.high)));
-            on_line = λ i below feed.
+                ap is_word_byte (front_at n (k + 7) (omega arith) ∙ ap (λ j. slice_index bytes j) (sym point)) ∙ true_not (the_run.here (omega (arith, line.high))),
+            λ i below feed.
                 let inside : i < n = omega arith in
                 ⊎_elim
                 (λ early. absurd (no_feed i early (sym (front_at n i inside) ∙ feed)))
                 (λ late. joined_from n i inside (line.before i late inside) feed)
-                (cases_lt i e);
-          };
+                (cases_lt i e),
+          );
         }
 
     finds-named : IsFound bytes (named_directive bytes k)

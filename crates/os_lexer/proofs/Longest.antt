@@ -9,7 +9,7 @@ use Rattle.std.proofs.lemmas.Slice.{between_is}
 use Rattle.std.specs.Prelude.{slice_index, slice_range, nat_lt, ◌==◌}
 use Rattle.os_lexer.specs.Bytes.{is_white, is_blank, is_letter, is_digit, is_word_byte, IsPairAt}
 use Rattle.os_lexer.specs.Lines.{EndsJoinedLine, StaysOnLine}
-use Rattle.os_lexer.specs.Forms.{IsRun, IsWord, IsHashTo, IsIncludeLine, IsForm}
+use Rattle.os_lexer.specs.Forms.{IsRun, IsWord, IsHashTo, IsForm}
 use Rattle.os_lexer.specs.Marks.{mark_spelling}
 use Rattle.os_lexer.specs.Reading.{class_of, ends_run, ends_blanks, ends_line, is_joined, closes, run_end, blanks_end, line_end, comment_end, lexeme, joined_line_at, mark_at, comment_at, slash_at, named_directive, directive_at, lexeme_of, lexeme_at}
 use Rattle.os_lexer.specs.declared.bytes.Class.{Class}
@@ -362,17 +362,17 @@ module _ (bytes : List ℕ) (m : ℕ) (within : m ≤ length bytes) where
       let there : slice_index (drop k (take m bytes)) i ≡ slice_index bytes (k + i) = get_or-drop k (take m bytes) i 0 ∙ front_at (k + i) (omega (arith, name_length k)) in
       sym there ∙ sym (get_or-take 7 (drop k (take m bytes)) i 0 below) ∙ ap (λ l. slice_index l i) named
 
-  longest-include_line : IsIncludeLine (take m bytes) → FindsAtLeast (lexeme_at bytes) m (lexeme form.IncludeLine m)
+  longest-include_line : IsForm form.IncludeLine (take m bytes) → FindsAtLeast (lexeme_at bytes) m (lexeme form.IncludeLine m)
   unfolding named_directive
   longest-include_line s =
-      let k = s.name_at in
-      let low : k ≤ m = omega (arith, s.hash.within, front_length) in
-      let seven : 7 ≤ length (drop k (take m bytes)) = include_fits (drop k (take m bytes)) s.named in
+      let k = s.0 in
+      let low : k ≤ m = omega (arith, s.1.within, front_length) in
+      let seven : 7 ≤ length (drop k (take m bytes)) = include_fits (drop k (take m bytes)) s.2 in
       let fits : k + 7 ≤ m = omega (arith, name_length k) in
-      let bytes_are = include_at k low s.named in
+      let bytes_are = include_at k low s.2 in
       let first_is : slice_index bytes (k + 0) ≡ slice_index (codes "include") 0 = bytes_are 0 (omega arith) in
       let letter : is_letter (slice_index bytes k) ≡ true = ap is_letter (ap (λ i. slice_index bytes i) (sym (add-zero k)) ∙ first_is) in
-      let is_found = at_hash k s.hash (omega arith) letter in
+      let is_found = at_hash k s.1 (omega arith) letter in
       let passes_word : (i : ℕ) → k ≤ i → i < k + 7 → ends_run bytes i ≡ false = λ i from below. not_from_true _
       (let point : k + (i - k) ≡ i = omega arith in
       ap is_word_byte (ap (λ j. slice_index bytes j) (sym point) ∙ bytes_are (i - k) (omega arith)) ∙ include_word.run.1 (i - k) (omega arith))
@@ -383,19 +383,19 @@ module _ (bytes : List ℕ) (m : ℕ) (within : m ≤ length bytes) where
       ⊎_elim
       (λ over.
       let no_more : m ≤ k + 7 = ⊎_elim
-      (λ inside. absurd (false≢true (sym (first.before (k + 7) (omega arith) over) ∙ not_from_false _ (ap is_word_byte (sym (front_at (k + 7) inside)) ∙ s.whole_word (omega (arith, front_length))))))
+      (λ inside. absurd (false≢true (sym (first.before (k + 7) (omega arith) over) ∙ not_from_false _ (ap is_word_byte (sym (front_at (k + 7) inside)) ∙ s.3 (omega (arith, front_length))))))
       (λ l. l) (cases_lt (k + 7) m)
       in
       record { lexeme_found = named_directive bytes k; is_found = is_found; as_long = omega (arith, longer); same = λ e. absurd (omega (arith, e, longer)) })
       (λ exact.
       let end_is : run_end bytes k ≡ k + 7 = omega (arith, exact, reaches) in
       let name : slice_range bytes k (run_end bytes k) ≡ codes "include" =
-      ap (λ j. slice_range bytes k j) end_is ∙ between_is bytes k (k + 7) ∙ drop-take k 7 bytes ∙ sym (ap (λ l. take 7 l) (sym (between_is bytes k m)) ∙ take-take 7 (m - k) (drop k bytes) (omega arith)) ∙ s.named
+      ap (λ j. slice_range bytes k j) end_is ∙ between_is bytes k (k + 7) ∙ drop-take k 7 bytes ∙ sym (ap (λ l. take 7 l) (sym (between_is bytes k m)) ∙ take-take 7 (m - k) (drop k bytes) (omega arith)) ∙ s.2
       in
       let is_include : named_directive bytes k ≡ lexeme form.IncludeLine (line_end bytes (run_end bytes k)) =
       ap (λ n. cond (bytes_eq n (codes "pragma")) (lexeme form.PragmaStart (run_end bytes k)) (cond (bytes_eq n (codes "include")) (lexeme form.IncludeLine (line_end bytes (run_end bytes k))) (lexeme form.OtherDirective (run_end bytes k)))) name
       in
-      let passes : m ≤ line_end bytes (run_end bytes k) = IsFirst-passes (line_end-first bytes (run_end bytes k) (omega arith)) m within (λ i from below. stays_here s.on_line i below) in
+      let passes : m ≤ line_end bytes (run_end bytes k) = IsFirst-passes (line_end-first bytes (run_end bytes k) (omega arith)) m within (λ i from below. stays_here s.4 i below) in
       found_longer _ form.IncludeLine m _ (is_found ∙ ap Some is_include) passes)
       (cases_lt (k + 7) (run_end bytes k))
 

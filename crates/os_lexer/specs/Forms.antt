@@ -23,14 +23,6 @@ pub record IsHashTo (s : List ℕ) (k : ℕ) : Type 0 where
   pub within : k ≤ length s
   pub blank : (i : ℕ) → 1 ≤ i → i < k → IsTrue (is_blank (slice_index s i))
 
--- a `#` line with the word `include`: comments aren't looked for in it
-pub record IsIncludeLine (s : List ℕ) : Type 0 where
-  pub name_at : ℕ
-  pub hash : IsHashTo s name_at
-  pub named : take 7 (drop name_at s) ≡ codes "include"
-  pub whole_word : name_at + 7 < length s → IsFalse (is_word_byte (slice_index s (name_at + 7)))
-  pub on_line : StaysOnLine s
-
 -- the slice is of the form
 abbrev pub IsForm : Form → List ℕ → Type 0
 -- one byte of white space (C11, 6.4, paragraph 3)
@@ -45,7 +37,9 @@ IsForm form.BlockComment s =
     IsPairAt s 0 47 42 × ((i : ℕ) × (2 ≤ i) × IsPairAt s i 42 47) × ((i : ℕ) → 2 ≤ i → IsPairAt s i 42 47 → i + 2 ≡ length s)
 -- `/*` with no `*/` after it
 IsForm form.OpenComment s = IsPairAt s 0 47 42 × ((i : ℕ) → 2 ≤ i → IsPairAt s i 42 47 → ⊥)
-IsForm form.IncludeLine s = IsIncludeLine s
+-- a `#` line with the whole word `include`: comments aren't looked for in it
+IsForm form.IncludeLine s = (name_at : ℕ) × IsHashTo s name_at × (take 7 (drop name_at s) ≡ codes "include")
+    × (name_at + 7 < length s → IsFalse (is_word_byte (slice_index s (name_at + 7)))) × StaysOnLine s
 -- from `#` to the end of the word `pragma`
 IsForm form.PragmaStart s = (name_at : ℕ) × IsHashTo s name_at × (drop name_at s ≡ codes "pragma")
 -- from `#` to the end of another word
