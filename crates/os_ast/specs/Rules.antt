@@ -195,7 +195,18 @@ is_violated_by _ _ = false
 abbrev pub when : Bool → Rule → List Rule
 when holds r = if holds then r ∷ [] else []
 
--- a rule with its test
+-- the rules for what stands at a token
+abbrev pub note_rules : List Rule
+note_rules =
+    rule.Unknown ∷ rule.WrongKind ∷ rule.DeclaredTwice ∷ rule.ArgumentCount ∷ rule.FixedChanged ∷ rule.WrongSize ∷
+    rule.OutsideLoop ∷ rule.Misplaced ∷ rule.ReturnInTask ∷ rule.MisplacedStream ∷ rule.WrongEnd ∷
+    rule.ListedTwice ∷ rule.TaskLimit ∷ rule.MisplacedWindow ∷ []
+
+-- the rules that what stands at a token violates
+abbrev pub broken : Note → List Rule
+broken n = flat_map (λ r. when (is_violated_by r n) r) note_rules
+
+-- The same, rule by rule, as proofs take it apart: a rule with its test, all of them, and those that are violated among some.
 pub record RuleTest : Type 0 where
   pub rule : Rule
   pub is_violated : Note → Bool
@@ -203,17 +214,8 @@ pub record RuleTest : Type 0 where
 abbrev test : Rule → (Note → Bool) → RuleTest
 test r is_violated = record { rule = r; is_violated = is_violated }
 
--- all rules for what stands at a token
 abbrev pub rules : List RuleTest
-rules =
-    map (λ r. test r (is_violated_by r))
-    (rule.Unknown ∷ rule.WrongKind ∷ rule.DeclaredTwice ∷ rule.ArgumentCount ∷ rule.FixedChanged ∷ rule.WrongSize ∷
-    rule.OutsideLoop ∷ rule.Misplaced ∷ rule.ReturnInTask ∷ rule.MisplacedStream ∷ rule.WrongEnd ∷
-    rule.ListedTwice ∷ rule.TaskLimit ∷ rule.MisplacedWindow ∷ [])
+rules = map (λ r. test r (is_violated_by r)) note_rules
 
 abbrev pub broken_among : List RuleTest → Note → List Rule
 broken_among ts n = flat_map (λ (t : RuleTest). when (t.is_violated n) t.rule) ts
-
--- the rules that what stands at a token violates
-abbrev pub broken : Note → List Rule
-broken n = broken_among rules n

@@ -1,6 +1,6 @@
 -- The tokens that spell a program, production by production. The smallest parts come first, since each
 -- definition stands on those above it; the alternatives of a production keep its order.
-use Rattle.std.specs.Prelude.{ℕ, Bool, if◌then◌else◌, List, [], ◌∷◌, Option, map}
+use Rattle.std.specs.Prelude.{ℕ, Bool, if◌then◌else◌, List, [], ◌∷◌, Option, map, codes}
 use Rattle.std.specs.Option.{option_map_or}
 use Rattle.os_ast.specs.Operators.{unary_mark, binary_mark, assign_mark, step_mark}
 use Rattle.os_ast.specs.Trees as tree
@@ -12,7 +12,7 @@ use Rattle.os_ast.specs.declared.program.Params.{Params}
 use Rattle.os_ast.specs.declared.program.Params.TheVariants as params_of
 use Rattle.os_ast.specs.declared.ty.Ty.{Ty}
 use Rattle.os_ast.specs.declared.ty.Ty.TheVariants as ty_of
-use Rattle.os_lexer.specs.Names.{omp_id, task_id, tick_id, taskwait_id, input_id, output_id, firstprivate_id, stream_id}
+use Rattle.os_lexer.specs.Names.{fixed_id}
 use Rattle.os_lexer.specs.declared.token.Key.{Key}
 use Rattle.os_lexer.specs.declared.token.Key.TheVariants as keys
 use Rattle.os_lexer.specs.declared.token.Kind.{Kind}
@@ -79,12 +79,15 @@ type_words ty_of.Int = key keys.Int
 type_words ty_of.Unsigned = key keys.Unsigned
 type_words ty_of.UnsignedInt = key keys.Unsigned ⨾ key keys.Int
 
--- the words of pragmas, by the numbers of their names
+-- a name by its number, and a word of pragmas, which is a name with a fixed number
 abbrev pub word : ℕ → Printer
 word n = token (kind.Name n)
 
+abbrev pub word_of : List ℕ → Printer
+word_of name = word (fixed_id name)
+
 abbrev pub omp : Printer
-omp = word omp_id
+omp = word_of (codes "omp")
 
 -- "(" part ")"
 abbrev pub in_parens : Printer → Printer
@@ -160,7 +163,7 @@ first_value e = punct puncts.Set ⨾ expr e
 
 -- "__attribute__" "(" "(" "stream" ")" ")"
 abbrev pub attribute : Bool → Printer
-attribute is_stream = if is_stream then key keys.Attribute ⨾ in_parens (in_parens (word stream_id)) else nothing
+attribute is_stream = if is_stream then key keys.Attribute ⨾ in_parens (in_parens (word_of (codes "stream"))) else nothing
 
 -- declr = name [ "=" expr ] | name "[" expr "]"
 --       | name [ "[" expr "]" ] "__attribute__" "(" "(" "stream" ")" ")"
@@ -201,9 +204,9 @@ clause_item arrow i = target i.stream ⨾ optional (join arrow) i.window
 -- clause = "input" "(" in { "," in } ")" | "output" "(" out { "," out } ")"
 --        | "firstprivate" "(" name { "," name } ")"
 abbrev pub clause_kind : tree.ClauseKindTree → Printer
-clause_kind (tree.Input items) = word input_id ⨾ in_parens (listed (clause_item puncts.ShiftRight) items)
-clause_kind (tree.Output items) = word output_id ⨾ in_parens (listed (clause_item puncts.ShiftLeft) items)
-clause_kind (tree.Firstprivate names) = word firstprivate_id ⨾ in_parens (listed name names)
+clause_kind (tree.Input items) = word_of (codes "input") ⨾ in_parens (listed (clause_item puncts.ShiftRight) items)
+clause_kind (tree.Output items) = word_of (codes "output") ⨾ in_parens (listed (clause_item puncts.ShiftLeft) items)
+clause_kind (tree.Firstprivate names) = word_of (codes "firstprivate") ⨾ in_parens (listed name names)
 
 -- [ "," ]
 abbrev pub comma : Bool → Printer
@@ -240,10 +243,10 @@ abbrev mutual
   stmt (tree.Break m) = key_at keys.Break m ⨾ punct puncts.Semicolon
   stmt (tree.Continue m) = key_at keys.Continue m ⨾ punct puncts.Semicolon
   stmt (tree.Return m e) = key_at keys.Return m ⨾ expr e ⨾ punct puncts.Semicolon
-  stmt (tree.Task m clauses s) = pragma m ⨾ omp ⨾ word task_id ⨾ each clause clauses ⨾ token kind.PragmaEnd ⨾ stmt s
+  stmt (tree.Task m clauses s) = pragma m ⨾ omp ⨾ word_of (codes "task") ⨾ each clause clauses ⨾ token kind.PragmaEnd ⨾ stmt s
   stmt (tree.Tick m t arrow e) =
-      pragma m ⨾ omp ⨾ word tick_id ⨾ in_parens (target t ⨾ punct_at puncts.ShiftRight arrow ⨾ expr e) ⨾ token kind.PragmaEnd
-  stmt (tree.Taskwait m) = pragma m ⨾ omp ⨾ word taskwait_id ⨾ token kind.PragmaEnd
+      pragma m ⨾ omp ⨾ word_of (codes "tick") ⨾ in_parens (target t ⨾ punct_at puncts.ShiftRight arrow ⨾ expr e) ⨾ token kind.PragmaEnd
+  stmt (tree.Taskwait m) = pragma m ⨾ omp ⨾ word_of (codes "taskwait") ⨾ token kind.PragmaEnd
   stmt (tree.StmtTree.Declare t ds) = declare t ds
 
   -- { declare | stmt }

@@ -9,7 +9,11 @@ fixed_names =
     codes "omp" ∷ codes "task" ∷ codes "tick" ∷ codes "taskwait" ∷ codes "input" ∷ codes "output" ∷
     codes "firstprivate" ∷ codes "stream" ∷ codes "main" ∷ codes "osin" ∷ codes "osout" ∷ codes "osin_len" ∷ []
 
--- their numbers, which are their places in this list
+-- the number of one of them, which is its place in this list
+abbrev pub fixed_id : List ℕ → ℕ
+fixed_id name = position_or_len (bytes_eq name) fixed_names
+
+-- their numbers
 abbrev pub omp_id : ℕ
 omp_id = 0
 
