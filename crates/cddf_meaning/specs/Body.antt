@@ -1,7 +1,8 @@
 -- What a task's body makes of its captured scalars and its input windows.
 use Rattle.std.specs.Prelude.{ℕ, suc, ◌==◌, Bool, true, not, ◌&&◌, ◌||◌, if◌then◌else◌, List, [], ◌∷◌}
-use Rattle.std.specs.Prelude.{◌++◌, take, drop, replicate, slice_get, Option, Some, None, ℤ, pos}
+use Rattle.std.specs.Prelude.{◌++◌, take, drop, replicate, slice_get, Option, ℤ, pos}
 use Rattle.std.specs.List.{list_all}
+use Rattle.std.specs.Option.{option_map_or}
 use Rattle.c_int.specs.Traps.{trap_code}
 use Rattle.c_int.specs.declared.trap.Trap.TheVariants.{NoByte}
 use Rattle.cddf_meaning.specs.File.{File}
@@ -84,13 +85,11 @@ task_outcome file t a inputs budget = outcome t.mark.line a.claims
 
 -- An activation is of one of the tasks.
 abbrev pub chosen_outcome : File → Option Task → Activation → List ℤ → ℕ → Outcome
-chosen_outcome file None a inputs budget = done []
-chosen_outcome file (Some t) a inputs budget = task_outcome file t a inputs budget
+chosen_outcome file t a inputs budget = option_map_or (λ t. task_outcome file t a inputs budget) t (done [])
 
 -- A program has a function `main`.
 abbrev pub outcome_in : Option Main → Activation → List ℤ → ℕ → Outcome
-outcome_in None a inputs budget = done []
-outcome_in (Some m) a inputs budget = chosen_outcome m.file (slice_get m.tasks a.site) a inputs budget
+outcome_in m a inputs budget = option_map_or (λ (m : Main). chosen_outcome m.file (slice_get m.tasks a.site) a inputs budget) m (done [])
 
 -- How an activation ends for its inputs, which are those of its input windows in clause order, and what it writes.
 abbrev pub body : tree.ProgramTree → Activation → List ℤ → ℕ → Outcome

@@ -1,5 +1,5 @@
 -- The claims of an activation on streams, and the limits of the control program.
-use Rattle.std.specs.Prelude.{ℕ, ◌+◌, ◌==◌, ◌&&◌, Bool, not, true, false, if◌then◌else◌, ltb, leb, List, [], ◌∷◌, length, fold, Option, Some, None}
+use Rattle.std.specs.Prelude.{ℕ, ◌+◌, ◌==◌, ◌&&◌, Bool, not, if◌then◌else◌, ltb, leb, List, [], ◌∷◌, length, fold, Option, Some, None}
 use Rattle.std.specs.List.{sum_by}
 use Rattle.c_int.specs.declared.control_limit.ControlLimit.{ControlLimit}
 use Rattle.c_int.specs.declared.control_limit.ControlLimit.TheVariants.{Activations, Elements}
@@ -7,13 +7,6 @@ use Rattle.cddf_meaning.specs.declared.cursor_move.Move.{Move}
 use Rattle.cddf_meaning.specs.declared.cursor_move.Move.TheVariants.{Take, Tick}
 use Rattle.flow_core_laws.specs.declared.activation.Activation.{Activation}
 use Rattle.flow_core_laws.specs.declared.claim.Claim.{Claim}
-
-abbrev pub read_claim : (stream horizon burst : ℕ) → Claim
-read_claim stream horizon burst = record { stream = stream; write = false; horizon = horizon; burst = burst; skip = 0 }
-
--- A write claim moves the write cursor by its horizon.
-abbrev pub write_claim : (stream horizon : ℕ) → Claim
-write_claim stream horizon = record { stream = stream; write = true; horizon = horizon; burst = horizon; skip = 0 }
 
 -- whether a claim reads a stream
 abbrev pub reads : ℕ → Claim → Bool

@@ -1,13 +1,14 @@
 -- What programs mean, worked out by hand.
 use Rattle.std.specs.Prelude.{ℕ, [], ◌∷◌, pos}
-use Rattle.cddf_meaning.specs.Claims.{read_claim, write_claim}
+use Rattle.cddf_meaning.specs.Streams.{claim_of}
 use Rattle.flow_core_laws.specs.declared.activation.Activation.{Activation}
 use Rattle.flow_core_laws.specs.declared.control.Control.{Control}
 use Rattle.flow_core_laws.specs.declared.control.ControlEnd.TheVariants as end
+use Rattle.os_ast.specs.declared.names.Direction.TheVariants as direction
 
 -- a block of so many bytes of the input, as captured and claimed
 abbrev pub inverted_block : ℕ → Activation
-inverted_block n = record { site = 0; captured = pos n ∷ []; claims = read_claim 0 n n ∷ write_claim 1 n ∷ [] }
+inverted_block n = record { site = 0; captured = pos n ∷ []; claims = claim_of direction.Reads 0 n n ∷ claim_of direction.Writes 1 n n ∷ [] }
 
 abbrev pub last_block : Activation
 last_block = inverted_block 2

@@ -1,5 +1,6 @@
 -- What a body sees of the file: the constants and functions that were declared before it.
-use Rattle.std.specs.Prelude.{ℕ, Bool, false, List, Option, Some, None, ℤ}
+use Rattle.std.specs.Prelude.{ℕ, Bool, false, List, Option, ℤ}
+use Rattle.std.specs.Option.{option_or}
 use Rattle.cddf_meaning.specs.Answers.{Answer, Left}
 use Rattle.cddf_meaning.specs.BodyState.{BodyState}
 use Rattle.cddf_meaning.specs.ExpressionTypes.{Flags, type_of}
@@ -19,8 +20,7 @@ pub record File : Type 0 where
   pub calls : Calls
 
 abbrev pub or_in_file : File → ℕ → Option Variable → Option Variable
-or_in_file file id None = find file.names id
-or_in_file file id (Some v) = Some v
+or_in_file file id v = option_or v (find file.names id)
 
 -- what a name stands for: in the body, and else in the file
 abbrev pub variable : File → BodyState → ℕ → Option Variable

@@ -33,10 +33,9 @@ flows next ran = ran
 
 -- Behind the body of a loop: `continue` goes on with it, and `break` leaves it. C11, 6.8.6.2 and 6.8.6.3.
 abbrev pub loops : Runs → Ran → Ran
-loops next (Went GoesOn s turns) = next s turns
 loops next (Went Breaks s turns) = Went GoesOn s turns
 loops next (Went Continues s turns) = next s turns
-loops next ran = ran
+loops next ran = flows next ran
 
 abbrev pub left_state : BodyState → BodyState → BodyState
 left_state outer inner = record inner { bound = leave outer.bound inner.bound }

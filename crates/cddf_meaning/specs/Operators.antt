@@ -1,5 +1,6 @@
 -- The operators of the trees as operators on bits, chosen by the types of the operands. The line of a trap is the operator's.
 use Rattle.std.specs.Prelude.{ℕ, Bool, ℤ, pos, Option, Some, None, Ok}
+use Rattle.std.specs.Option.{option_map_or}
 use Rattle.c_int.specs.Machine.{unary_for, binary_for}
 use Rattle.c_int.specs.Operators as c_int
 use Rattle.c_int.specs.declared.operators.Binary as int_binary
@@ -46,8 +47,7 @@ unary_value op line unsigned a = at_line line (c_int.unary_value (unary_for unsi
 
 -- An operator that is none is never asked.
 abbrev pub given_by : Option int_binary.Binary → ℕ → (left right : Bool) → ℤ → ℤ → Answer ℤ
-given_by None line left right a b = Ok (pos 0)
-given_by (Some op) line left right a b = at_line line (c_int.binary_value (binary_for left right op) a b)
+given_by op line left right a b = option_map_or (λ op. at_line line (c_int.binary_value (binary_for left right op) a b)) op (Ok (pos 0))
 
 -- what an operator with two operands gives that are both evaluated, by their types
 abbrev pub binary_value : Binary → ℕ → (left right : Bool) → ℤ → ℤ → Answer ℤ

@@ -1,6 +1,7 @@
 -- What a statement does. C11, 6.8; the declarations and pragmas of the control program by the rules of streams.
 use Rattle.std.specs.Prelude.{ℕ, zero, suc, ◌+◌, Bool, false, if◌then◌else◌, leb, ◌&&◌, List, [], ◌∷◌}
 use Rattle.std.specs.Prelude.{length, get_or, replicate, Option, Some, None, ℤ, pos, negsuc, unwrap_or, Ok}
+use Rattle.std.specs.Option.{option_map_or}
 use Rattle.c_int.specs.Operators.{is_zero}
 use Rattle.c_int.specs.declared.trap.Trap.TheVariants.{WindowSize}
 use Rattle.cddf_meaning.specs.Answers.{Answer, traps, and_then, Left, left, with_turns}
@@ -118,8 +119,7 @@ abbrev pub run_sized : Around → Bool → ℕ → tree.IndexTree → Runs
 run_sized u unsigned id i = if u.is_control then run_window u.file unsigned id i else run_array u.file unsigned id i.value
 
 abbrev pub run_unsized_or : Around → Bool → tree.DeclaratorTree → Option tree.IndexTree → Runs
-run_unsized_or u unsigned d None = run_scalar u.file unsigned d.name.id d.first
-run_unsized_or u unsigned d (Some i) = run_sized u unsigned d.name.id i
+run_unsized_or u unsigned d size = option_map_or (run_sized u unsigned d.name.id) size (run_scalar u.file unsigned d.name.id d.first)
 
 -- A declaration sets its variable each time that it is executed. C11, 6.7.9. Streams are declared once, directly in the
 -- outermost block of `main`.
@@ -139,18 +139,15 @@ run_start u (tree.StartTree.Change c) s turns = run_change u.file c s turns
 
 -- Without a test a loop goes on.
 abbrev pub run_test : File → Option tree.ExprTree → BodyState → ℕ → Answer (Left ℤ)
-run_test file None s turns = Ok (left (pos 1) turns)
-run_test file (Some e) s turns = value file e s turns
+run_test file test s turns = option_map_or (λ e. value file e s turns) test (Ok (left (pos 1) turns))
 
 -- what stands behind the second `;` of a `for`
 abbrev pub run_step : File → Option tree.ChangeTree → Runs
-run_step file None s turns = goes_on s turns
-run_step file (Some c) s turns = run_change file c s turns
+run_step file step s turns = option_map_or (λ c. run_change file c s turns) step (goes_on s turns)
 
 -- A statement. `if`, blocks, loops, jumps: C11, 6.8.2 to 6.8.6. A tick or a task stands in the control program alone.
 abbrev mutual
   pub run : Around → tree.StmtTree → Runs
-  run u tree.StmtTree.Empty s turns = goes_on s turns
   run u (tree.Block ss) s turns = left_from s (run_all u ss s turns)
   run u (tree.StmtTree.Declare ty ds) s turns = run_declarators u (is_unsigned ty) ds s turns
   run u (tree.StmtTree.Change c) s turns = run_change u.file c s turns
@@ -166,8 +163,8 @@ abbrev mutual
   run u (tree.Return m e) s turns = given (value u.file e s turns) s (λ n. Went (Returns n.value) s n.turns)
   run u (tree.Task m cs a) s turns = run_task u.file u.sites (task_number u.sites m) (parts cs) s turns
   run u (tree.Tick m t arrow e) s turns = run_tick u.file t arrow e s turns
-  -- The control program reads no element, so there is nothing to wait for.
-  run u (tree.Taskwait m) s turns = goes_on s turns
+  -- `;` does nothing, and neither does a taskwait: the control program reads no element, so there is nothing to wait for.
+  run u _ s turns = goes_on s turns
 
   -- the statements and declarations of a block, one after another, until one leaves it
   pub run_all : Around → tree.Stmts → Runs

@@ -1,9 +1,11 @@
 -- What the control program does with streams: clause items, tasks and ticks.
-use Rattle.std.specs.Prelude.{ℕ, zero, suc, ◌+◌, ◌==◌, if◌then◌else◌, leb, List, [], ◌∷◌, ◌++◌, map, get_or, position, Option, Some, None, ℤ, pos, negsuc, Ok}
+use Rattle.std.specs.Prelude.{ℕ, zero, suc, ◌+◌, ◌==◌, true, false, if◌then◌else◌, leb, List, [], ◌∷◌, ◌++◌}
+use Rattle.std.specs.Prelude.{map, get_or, position, Option, Some, None, ℤ, pos, negsuc, Ok}
+use Rattle.std.specs.Option.{option_map_or}
 use Rattle.c_int.specs.declared.control_limit.ControlLimit.{ControlLimit}
 use Rattle.c_int.specs.declared.trap.Trap.TheVariants.{Move, OutputBurst}
 use Rattle.cddf_meaning.specs.Answers.{Answer, Left, traps, and_then, left, with_turns}
-use Rattle.cddf_meaning.specs.Claims.{read_claim, write_claim, with_skips, moves_behind, limit}
+use Rattle.cddf_meaning.specs.Claims.{with_skips, moves_behind, limit}
 use Rattle.cddf_meaning.specs.File.{File, variable}
 use Rattle.cddf_meaning.specs.Flow.{Ran, Ended, given, goes_on}
 use Rattle.cddf_meaning.specs.BodyState.{BodyState}
@@ -56,10 +58,10 @@ abbrev pub horizon_of : Option Variable → ℕ
 horizon_of (Some (Window horizon)) = horizon
 horizon_of _ = 1
 
--- what an item claims; the burst of an output item is its horizon
+-- What an item claims. An output item moves the write cursor by its horizon, which is its burst.
 abbrev pub claim_of : Direction → (stream horizon burst : ℕ) → Claim
-claim_of direction.Reads stream horizon burst = read_claim stream horizon burst
-claim_of direction.Writes stream horizon burst = write_claim stream horizon
+claim_of direction.Reads stream horizon burst = record { stream = stream; write = false; horizon = horizon; burst = burst; skip = 0 }
+claim_of direction.Writes stream horizon burst = record { stream = stream; write = true; horizon = horizon; burst = horizon; skip = 0 }
 
 -- the burst of an item: 1 without one; else it is evaluated and checked, with the line of its `[`
 abbrev pub burst : File → Direction → ℕ → Option tree.IndexTree → BodyState → ℕ → Answer (Left ℕ)
@@ -96,8 +98,7 @@ with_activation file site ids claims s = record s {
 
 -- the control program ends at a limit; else there is one more activation
 abbrev pub unless_limited : Option ControlLimit → BodyState → ℕ → BodyState → Ran
-unless_limited (Some limit) s turns next = Ended (Limited limit) s.activations
-unless_limited None s turns next = goes_on next turns
+unless_limited limit s turns next = option_map_or (λ limit. Ended (Limited limit) s.activations) limit (goes_on next turns)
 
 -- The number of the task with this PragmaStart, in the order of the text. In a program that tokens mean each mark has a
 -- place of its own.
