@@ -1,5 +1,6 @@
 -- What names mean: declarations, scopes, and what is in scope at a place.
-use Rattle.std.specs.Prelude.{ℕ, ◌+◌, ◌==◌, Bool, true, false, if◌then◌else◌, List, [], ◌∷◌, Option, Some, None, ℤ, pos, neg_ℤ, ◌^◌, unsigned_abs}
+use Rattle.std.specs.Prelude.{ℕ, ◌+◌, ◌==◌, Bool, true, false, if◌then◌else◌, List, [], ◌∷◌, find, Option}
+use Rattle.std.specs.Prelude.{ℤ, pos, neg_ℤ, ◌^◌, unsigned_abs}
 use Rattle.std.specs.Option.{option_map, option_map_or}
 use Rattle.std.specs.Int.{w32, cast_signed, int_rem_euclid}
 -- the numbers that the lexer gives the names which a program doesn't declare, or that mean more than others
@@ -8,6 +9,7 @@ use Rattle.os_ast.specs.Unsigned.{is_unsigned}
 use Rattle.os_ast.specs.declared.names.Entity.{Entity}
 use Rattle.os_ast.specs.declared.names.Entry.{Entry}
 use Rattle.os_ast.specs.declared.names.Owner.{Owner}
+use Rattle.os_ast.specs.declared.names.Owner.TheVariants as owner
 use Rattle.os_ast.specs.declared.program.Constant.{Constant as ConstantItem}
 use Rattle.os_ast.specs.declared.ty.Ty.{Ty}
 
@@ -30,14 +32,18 @@ pub record Scope : Type 0 where
   -- whether the last declaration is of the type `unsigned`
   pub unsigned : Bool
 
+-- the body of `main`
+abbrev pub is_main_body : Owner → Bool
+is_main_body owner.OfMain = true
+is_main_body _ = false
+
 -- A body begins: a function's or a task's, with slots and elements of its own and in no loop.
 abbrev pub in_unit : Owner → Scope → Scope
 in_unit o s = record s { owner = o; loop = false; captured = []; slots = 0; elements = 0 }
 
 -- The innermost declaration counts.
 abbrev pub lookup : List Entry → ℕ → Option Entry
-lookup [] id = None
-lookup (e ∷ es) id = if e.id == id then Some e else lookup es id
+lookup es id = find (λ (e : Entry). e.id == id) es
 
 -- what a name is declared as where it stands
 abbrev pub entity_of : Option Entry → Option Entity

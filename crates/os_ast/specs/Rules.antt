@@ -4,6 +4,7 @@ use Rattle.std.specs.Prelude.{ℕ, ◌==◌, ◌&&◌, ◌||◌, Bool, true, fal
 use Rattle.std.specs.List.{flat_map}
 use Rattle.std.specs.Option.{option_map_or}
 use Rattle.os_ast.specs.Limits.{is_size, elements_limit, arrays_limit, streams_limit, items_limit, captured_limit}
+pub use Rattle.os_ast.specs.Names.{is_main_body}
 use Rattle.os_ast.specs.Names.{Scope, lookup, entity_of, is_declared, main_id}
 use Rattle.os_ast.specs.Notes.Declarators.{form, size_told, after_declarator}
 use Rattle.os_ast.specs.Notes.Kinds.{Note, Used, Declared, Given, Global, Left, Returned, Pragma, Task, Listed}
@@ -122,10 +123,6 @@ has_too_many s (form_of.Array n) = ltb elements_limit s.elements || ltb arrays_l
 has_too_many s form_of.Stream = ltb streams_limit s.streams
 has_too_many s (form_of.Streams n) = ltb streams_limit s.streams
 has_too_many s _ = false
-
-abbrev pub is_main_body : Owner → Bool
-is_main_body owner.OfMain = true
-is_main_body _ = false
 
 -- directly in the outermost block of `main`, whose scope stands in the one that holds `osin`, in that of the file
 abbrev pub is_outermost : Owner → ℕ → Bool

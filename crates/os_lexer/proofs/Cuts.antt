@@ -1,6 +1,6 @@
 -- The lexemes of a text by what is found, and where they lead.
-use Rattle.std.proofs.Common.{◌≡◌, ℕ, ◌-◌, ◌<◌, ◌≤◌, List, length, take, drop, Option, Some, None, Result, Ok, Err, refl, ap, ◌∙◌, subst, ⊎_elim, arith, length-take-le, length-drop}
-use Rattle.os_lexer.specs.Cover.{Point, effect_at, skipped_to, given_to, IsFormless, LexemeStep, skips, gives, Leads, here, on, IsFaultAt, formless, faulty}
+use Rattle.std.proofs.Common.{◌≡◌, ℕ, ◌+◌, ◌-◌, ◌<◌, ◌≤◌, List, [], ◌∷◌, ◌++◌, length, take, drop, Option, Some, None, Result, Ok, Err, refl, ap, ◌∙◌, subst, ⊎_elim, arith, length-take-le, length-drop}
+use Rattle.os_lexer.specs.Cover.{Point, token_of, effect_at, IsFormless, LexemeStep, skips, gives, Leads, here, on, IsFaultAt, formless, faulty}
 use Rattle.os_lexer.specs.Forms.{IsForm, IsLexeme}
 use Rattle.os_lexer.specs.Reading.{lexeme, lexeme_at}
 use Rattle.os_lexer.specs.declared.effect.Effect.{Effect}
@@ -71,8 +71,8 @@ module _ (rest : List ℕ) where
 
 -- where a lexeme of this effect leads, or its fault
 abbrev pub outcome : List ℕ → Point → ℕ → Effect → Result Point Fault
-outcome text p n (Skip mode) = Ok (skipped_to p n mode)
-outcome text p n (Give kind mode) = Ok (given_to text p n kind mode)
+outcome text p n (Skip mode) = Ok (record { at = p.at + n; mode = mode; tokens = p.tokens })
+outcome text p n (Give kind mode) = Ok (record { at = p.at + n; mode = mode; tokens = p.tokens ++ token_of text kind p.at (p.at + n) ∷ [] })
 outcome text p n (Fail wrong) = Err wrong
 
 abbrev pub outcome_of : List ℕ → Point → Option Lexeme → Result Point Fault

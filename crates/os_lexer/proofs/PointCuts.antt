@@ -8,7 +8,7 @@ use Rattle.std.proofs.lemmas.List.Sums.{fold_push, sum_by-append}
 use Rattle.std.specs.List.{list_all, list_any}
 use Rattle.std.specs.Prelude.{count_by, nat_le, nat_lt, not, ◌&&◌, ◌||◌, ◌==◌, slice_index}
 use Rattle.os_lexer.specs.Bytes.{is_line_feed, is_word_byte}
-use Rattle.os_lexer.specs.Cover.{Point, text_start, token_of, effect_at, skipped_to, given_to, LexemeStep, skips, gives, Leads, here, on, tokens_at_end, IsTokenCover, IsFaultAt, IsFirstFault}
+use Rattle.os_lexer.specs.Cover.{Point, text_start, token_of, effect_at, LexemeStep, skips, gives, Leads, here, on, tokens_at_end, IsTokenCover, IsFaultAt, IsFirstFault}
 use Rattle.os_lexer.specs.Cover as walk
 use Rattle.os_lexer.specs.Cut.{opens_pragma, is_in_pragma, is_first_on_line, mode_at, does, IsSkip, IsGive, IsFail, IsCutTo, start, gap, token, pragma_end, IsCut, StandsAt, formless, faulty, IsFaultPoint}
 use Rattle.os_lexer.specs.Effects.{effect, directive_effect, space_effect, number_effect, word_kind, mode_after_token, mode_after_gap}
@@ -336,7 +336,7 @@ module _ (text : List ℕ) where
     give_agrees {mode = InPragma} {k = k} ts (plain same none) all a =
         let t = token_of text k at (at + n) in pragma_push ts t ∙ same (is_in_pragma ts) ∙ a
 
-  gap_knows : (p : Point) (f : Form) (n : ℕ) (m : Mode) → Knows p → IsLexeme (drop p.at text) f n → effect_at text p f n ≡ Skip m → Knows (skipped_to p n m)
+  gap_knows : (p : Point) (f : Form) (n : ℕ) (m : Mode) → Knows p → IsLexeme (drop p.at text) f n → effect_at text p f n ≡ Skip m → Knows (record { at = p.at + n; mode = m; tokens = p.tokens })
   gap_knows p f n m k is_lexeme e = record {
     before = are_later p.tokens (line_of text p.at) (line_of text (p.at + n)) (omega (arith, line_is p.at n f is_lexeme)) k.before;
     agrees = ⊎_elim
@@ -346,7 +346,7 @@ module _ (text : List ℕ) where
   }
 
   give_knows : (p : Point) (f : Form) (n : ℕ) (k : Kind) (m : Mode) → Knows p → IsLexeme (drop p.at text) f n → effect_at text p f n ≡ Give k m →
-      Knows (given_to text p n k m)
+      Knows (record { at = p.at + n; mode = m; tokens = p.tokens ++ token_of text k p.at (p.at + n) ∷ [] })
   give_knows p f n k m known is_lexeme e =
       let t = token_of text k p.at (p.at + n) in
       let later = are_later p.tokens (line_of text p.at) (line_of text (p.at + n)) (omega (arith, line_is p.at n f is_lexeme)) known.before in

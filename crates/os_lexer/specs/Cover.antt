@@ -37,14 +37,6 @@ token_of text kind from to = record { kind = kind; start = from; end = to; line 
 abbrev pub effect_at : List ℕ → Point → Form → ℕ → Effect
 effect_at text p form n = let slice = take n (drop p.at text) in effect p.mode (name_number text p.tokens slice) form slice
 
--- the point behind n bytes that are skipped
-abbrev pub skipped_to : Point → ℕ → Mode → Point
-skipped_to p n mode = record { at = p.at + n; mode = mode; tokens = p.tokens }
-
--- the point behind n bytes that are a token
-abbrev pub given_to : List ℕ → Point → ℕ → Kind → Mode → Point
-given_to text p n kind mode = record { at = p.at + n; mode = mode; tokens = p.tokens ++ token_of text kind p.at (p.at + n) ∷ [] }
-
 -- No form stands at the point.
 abbrev pub IsFormless : List ℕ → Type 0
 IsFormless rest = (form : Form) (n : ℕ) → n ≤ length rest → IsForm form (take n rest) → ⊥
@@ -52,9 +44,10 @@ IsFormless rest = (form : Form) (n : ℕ) → n ≤ length rest → IsForm form 
 -- a lexeme leads from a point to the point behind it: it is skipped, or is the next token
 pub data LexemeStep (text : List ℕ) : Point → Point → Type 0 where
   skips : {p : Point} {form : Form} {n : ℕ} {mode : Mode} →
-      IsLexeme (drop p.at text) form n → effect_at text p form n ≡ Skip mode → LexemeStep text p (skipped_to p n mode)
+      IsLexeme (drop p.at text) form n → effect_at text p form n ≡ Skip mode → LexemeStep text p (record { at = p.at + n; mode = mode; tokens = p.tokens })
   gives : {p : Point} {form : Form} {n : ℕ} {kind : Kind} {mode : Mode} →
-      IsLexeme (drop p.at text) form n → effect_at text p form n ≡ Give kind mode → LexemeStep text p (given_to text p n kind mode)
+      IsLexeme (drop p.at text) form n → effect_at text p form n ≡ Give kind mode →
+      LexemeStep text p (record { at = p.at + n; mode = mode; tokens = p.tokens ++ token_of text kind p.at (p.at + n) ∷ [] })
 
 -- lexemes lead from a point to another
 pub data Leads (text : List ℕ) : Point → Point → Type 0 where

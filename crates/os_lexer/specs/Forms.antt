@@ -33,8 +33,7 @@ IsForm form.JoinedLine s = (s ≡ 92 ∷ 10 ∷ []) ⊎ (s ≡ 92 ∷ 13 ∷ 10 
 -- `//` to the line's end, which a joined line isn't (C11, 6.4.9)
 IsForm form.LineComment s = IsPairAt s 0 47 47 × StaysOnLine s
 -- `/*` to the next `*/`, which comes after the whole `/*` (C11, 6.4.9)
-IsForm form.BlockComment s =
-    IsPairAt s 0 47 42 × ((i : ℕ) × (2 ≤ i) × IsPairAt s i 42 47) × ((i : ℕ) → 2 ≤ i → IsPairAt s i 42 47 → i + 2 ≡ length s)
+IsForm form.BlockComment s = IsPairAt s 0 47 42 × ((i : ℕ) × (2 ≤ i) × IsPairAt s i 42 47) × ((i : ℕ) → 2 ≤ i → IsPairAt s i 42 47 → i + 2 ≡ length s)
 -- `/*` with no `*/` after it
 IsForm form.OpenComment s = IsPairAt s 0 47 42 × ((i : ℕ) → 2 ≤ i → IsPairAt s i 42 47 → ⊥)
 -- a `#` line with the whole word `include`: comments aren't looked for in it

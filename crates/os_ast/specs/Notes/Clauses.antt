@@ -1,7 +1,8 @@
 -- The clauses of tasks.
-use Rattle.std.specs.Prelude.{ℕ, suc, Bool, List, [], ◌∷◌, ◌++◌, length, Option, Some, None}
+use Rattle.std.specs.Prelude.{ℕ, suc, Bool, if◌then◌else◌, List, [], ◌∷◌, ◌++◌, length, Option, Some, None}
+use Rattle.std.specs.Option.{option_map_or}
 use Rattle.os_ast.specs.Captured.{captured, slots_of}
-use Rattle.os_ast.specs.Names.{Scope, lookup, entity_of, flag_of, flagged, declare, enter, in_unit}
+use Rattle.os_ast.specs.Names.{Scope, is_main_body, lookup, entity_of, flag_of, flagged, declare, enter, in_unit}
 use Rattle.os_ast.specs.Notes.Expressions.{place_notes, index_notes}
 use Rattle.os_ast.specs.Notes.Kinds.{Note, Used, Task, Listed}
 use Rattle.os_ast.specs.ClauseParts.{ClausePart, Item, Private, target_name, item_name, part_name, count_items}
@@ -18,8 +19,7 @@ use Rattle.os_ast.specs.declared.names.Shape.TheVariants as shape
 use Rattle.os_ast.specs.declared.names.Use.TheVariants as usage
 
 abbrev pub shape_of : Option tree.IndexTree → Shape
-shape_of None = shape.Bare
-shape_of (Some i) = shape.Indexed
+shape_of i = option_map_or (λ (i : tree.IndexTree). shape.Indexed) i shape.Bare
 
 -- what stands behind the stream of an item
 abbrev pub window_notes : Scope → List ℕ → tree.TargetTree → Option tree.JoinTree → List Note
@@ -62,8 +62,7 @@ in_task s slots = enter (record (in_unit owner.OfTask s) { captured = slots; slo
 
 -- The body of a task in `main` has the captured scalars. A task that stands anywhere else violates a rule.
 abbrev pub captured_in : Owner → List ℕ → List ℕ
-captured_in owner.OfMain slots = slots
-captured_in _ slots = []
+captured_in o slots = if is_main_body o then slots else []
 
 -- the scope in which a task's body stands
 abbrev pub in_task_body : Scope → List ClausePart → tree.StmtTree → Scope

@@ -2,12 +2,11 @@
 use Rattle.std.specs.Prelude.{ℕ, ◌+◌, ◌&&◌, Bool, true, false, not, if◌then◌else◌, List, [], ◌∷◌, ◌++◌, fold}
 use Rattle.std.specs.Prelude.{Option, Some, None, unwrap_or, option_and_then, ℤ, pos, negsuc}
 use Rattle.os_ast.specs.Limits.{is_size}
-use Rattle.os_ast.specs.Names.{Scope, lookup, entity_of, declare, typed}
+use Rattle.os_ast.specs.Names.{Scope, is_main_body, lookup, entity_of, declare, typed}
 use Rattle.os_ast.specs.Notes.Expressions.{expr_notes, value_notes, change_notes}
 use Rattle.os_ast.specs.Notes.Kinds.{Note, Sized, Declared}
 use Rattle.os_ast.specs.Trees as tree
 use Rattle.os_ast.specs.declared.names.Owner.{Owner}
-use Rattle.os_ast.specs.declared.names.Owner.TheVariants as owner
 use Rattle.os_ast.specs.declared.names.Entity.{Entity}
 use Rattle.os_ast.specs.declared.names.Entity.TheVariants as entity
 use Rattle.os_ast.specs.declared.names.Form.{Form}
@@ -40,13 +39,9 @@ limited v = option_and_then within_limit v
 abbrev pub size_of : Scope → tree.ExprTree → Option ℕ
 size_of s e = limited (size_value s e)
 
--- whether an array declaration is a window: of `main` outside tasks it is, every other is a local array
-abbrev pub is_window : Owner → Bool
-is_window owner.OfMain = true
-is_window _ = false
-
+-- an array declaration of `main` outside tasks is a window, every other is a local array
 abbrev pub sized_form : Owner → Option ℕ → Form
-sized_form o size = if is_window o then form_of.Window else form_of.Array size
+sized_form o size = if is_main_body o then form_of.Window else form_of.Array size
 
 abbrev pub form_with : Scope → Bool → Option tree.IndexTree → Form
 form_with s false None = form_of.Scalar
@@ -58,8 +53,7 @@ abbrev pub form : Scope → tree.DeclaratorTree → Form
 form s d = form_with s d.stream d.size
 
 abbrev pub scalar_entity : Owner → ℕ → Entity
-scalar_entity owner.OfMain slot = entity.Control slot
-scalar_entity _ slot = entity.Scalar slot
+scalar_entity o slot = if is_main_body o then entity.Control slot else entity.Scalar slot
 
 -- where the size is wrong, 0 stands for it
 abbrev pub form_entity : Scope → Form → Entity
@@ -95,10 +89,14 @@ abbrev pub size_notes : Scope → tree.ExprTree → List Note
 size_notes s (tree.Place (tree.Variable n)) = Sized s n ∷ []
 size_notes s _ = []
 
+-- whether an array declaration is a window
+abbrev pub is_window : Owner → Bool
+is_window o = is_main_body o
+
 -- the size of a window is any expression
 abbrev pub sized_notes : Scope → Bool → Option tree.IndexTree → List Note
 sized_notes s stream None = []
-sized_notes s stream (Some i) = if is_window s.owner && not stream then expr_notes s i.value else size_notes s i.value
+sized_notes s stream (Some i) = if is_main_body s.owner && not stream then expr_notes s i.value else size_notes s i.value
 
 abbrev pub declarator_notes : Scope → tree.DeclaratorTree → List Note
 declarator_notes s d = Declared s d ∷ sized_notes s d.stream d.size ++ value_notes (after_declarator s d) d.first
