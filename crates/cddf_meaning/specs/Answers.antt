@@ -1,5 +1,5 @@
 -- What an evaluation comes to.
-use Rattle.std.specs.Prelude.{ℕ, Result, Ok, Err}
+use Rattle.std.specs.Prelude.{ℕ, Bool, if◌then◌else◌, ℤ, pos, negsuc, Result, Ok, Err}
 use Rattle.c_int.specs.declared.trap.OperatorTrap.{OperatorTrap}
 use Rattle.c_int.specs.declared.trap.Trap.{Trap}
 use Rattle.c_int.specs.declared.trap.Trap.TheVariants.{Operator}
@@ -12,6 +12,11 @@ Answer A = Result A Ending
 
 abbrev pub traps : {A : Type 0} → (why : Trap) (line : ℕ) → Answer A
 traps why line = Err (Trapped why line)
+
+-- a number that isn't negative and passes a test, and else the trap
+abbrev pub passing : (ℕ → Bool) → (why : Trap) (line : ℕ) → ℤ → Answer ℕ
+passing test why line (pos n) = if test n then Ok n else traps why line
+passing test why line (negsuc n) = traps why line
 
 abbrev pub over : {A : Type 0} → Answer A
 over = Err OverBudget

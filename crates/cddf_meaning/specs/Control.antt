@@ -1,16 +1,15 @@
 -- What the control program creates, and how it ends.
-use Rattle.std.specs.Prelude.{ℕ, true, false, List, [], Option, Some, None, pos}
+use Rattle.std.specs.Prelude.{ℕ, true, false, [], Option, Some, None, pos}
 use Rattle.c_int.specs.ControlLimits.{limit_code}
 use Rattle.c_int.specs.Traps.{trap_code}
 use Rattle.cddf_meaning.specs.Flow.{Ran, Went, Ended}
 use Rattle.cddf_meaning.specs.Program.{Main, main_of}
 use Rattle.cddf_meaning.specs.Run.{Around, run_all}
-use Rattle.cddf_meaning.specs.BodyState.{BodyState}
+use Rattle.cddf_meaning.specs.BodyState.{BodyState, state_of}
 use Rattle.cddf_meaning.specs.Tasks.{sites_of}
 use Rattle.cddf_meaning.specs.Variables.{bind}
 use Rattle.cddf_meaning.specs.declared.ending.Ending.TheVariants.{Trapped, OverBudget, Limited}
 use Rattle.cddf_meaning.specs.declared.ending.Ending.{Ending}
-use Rattle.cddf_meaning.specs.declared.variable.Binding.{Binding}
 use Rattle.cddf_meaning.specs.declared.variable.Variable.TheVariants.{Scalar, Stream}
 use Rattle.flow_core_laws.specs.declared.control.Control.{Control}
 use Rattle.flow_core_laws.specs.declared.control.ControlEnd.TheVariants as end
@@ -32,11 +31,9 @@ abbrev pub round_main : Main → Around
 round_main m = record { file = m.file; is_control = true; sites = sites_of m.tasks }
 
 -- round the body of `main`: `osin`, which is stream 0, `osout`, which is stream 1, and `osin_len`, each of the type `int`
-abbrev pub bound_round_main : (input_len : ℕ) → List Binding
-bound_round_main input_len = bind osin_len_id false (Scalar (pos input_len)) (bind osout_id false (Stream 1 1) (bind osin_id false (Stream 0 1) []))
-
 abbrev pub control_state : (input_len : ℕ) → BodyState
-control_state input_len = record { bound = bound_round_main input_len; items = []; activations = []; streams = 2; moves = [] }
+control_state input_len = record (state_of (bind osin_len_id false (Scalar (pos input_len)) (bind osout_id false (Stream 1 1)
+    (bind osin_id false (Stream 0 1) []))) []) { streams = 2 }
 
 -- A program has a function `main`.
 abbrev pub control_in : Option Main → (input_len budget : ℕ) → Control

@@ -63,11 +63,8 @@ calls_with file (tree.Function f) = λ n args turns. if n == file.count then cal
 
 -- The file with one more item. A constant or a function is in scope behind it.
 abbrev pub with_item : File → tree.ItemTree → File
-with_item file i = record {
-  names = bind (item_id i) (item_unsigned i) (item_variable file.count i) file.names;
-  count = file.count + 1;
-  calls = calls_with file i;
-}
+with_item file i =
+    record { names = bind (item_id i) (item_unsigned i) (item_variable file.count i) file.names; count = file.count + 1; calls = calls_with file i }
 
 abbrev pub with_items : File → List tree.ItemTree → File
 with_items file is = fold with_item file is

@@ -1,10 +1,10 @@
 -- What a statement does. C11, 6.8; the declarations and pragmas of the control program by the rules of streams.
 use Rattle.std.specs.Prelude.{ℕ, zero, suc, ◌+◌, Bool, false, if◌then◌else◌, leb, ◌&&◌, List, [], ◌∷◌}
-use Rattle.std.specs.Prelude.{length, get_or, replicate, Option, Some, None, ℤ, pos, negsuc, unwrap_or, Ok}
+use Rattle.std.specs.Prelude.{length, get_or, replicate, Option, Some, None, ℤ, pos, unwrap_or, Ok}
 use Rattle.std.specs.Option.{option_map_or}
 use Rattle.c_int.specs.Operators.{is_zero}
 use Rattle.c_int.specs.declared.trap.Trap.TheVariants.{WindowSize}
-use Rattle.cddf_meaning.specs.Answers.{Answer, traps, and_then, Left, left, with_turns}
+use Rattle.cddf_meaning.specs.Answers.{Answer, passing, and_then, Left, left, with_turns}
 use Rattle.cddf_meaning.specs.File.{File, variable, flags, type_in}
 use Rattle.cddf_meaning.specs.Flow.{Went, Ended, Runs, given, goes_on, flows, loops, left_from}
 use Rattle.cddf_meaning.specs.Operators.{binary_value, step_operator}
@@ -98,8 +98,7 @@ run_array file unsigned id size s turns =
 
 -- The size of a window is 1 to 65,536; else it is trap 6, with the line of its `[`.
 abbrev pub window_size : ℕ → ℤ → Answer ℕ
-window_size line (pos n) = if leb 1 n && leb n 65536 then Ok n else traps WindowSize line
-window_size line (negsuc n) = traps WindowSize line
+window_size line v = passing (λ n. leb 1 n && leb n 65536) WindowSize line v
 
 abbrev pub run_window : File → Bool → ℕ → tree.IndexTree → Runs
 run_window file unsigned id i s turns = given (value file i.value s turns) s

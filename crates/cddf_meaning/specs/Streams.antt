@@ -1,10 +1,10 @@
 -- What the control program does with streams: clause items, tasks and ticks.
-use Rattle.std.specs.Prelude.{ℕ, zero, suc, ◌+◌, ◌==◌, true, false, if◌then◌else◌, leb, List, [], ◌∷◌, ◌++◌}
-use Rattle.std.specs.Prelude.{map, get_or, position, Option, Some, None, ℤ, pos, negsuc, Ok}
+use Rattle.std.specs.Prelude.{ℕ, zero, suc, ◌+◌, ◌==◌, true, false, leb, List, [], ◌∷◌, ◌++◌}
+use Rattle.std.specs.Prelude.{map, get_or, position, Option, Some, None, ℤ, Ok}
 use Rattle.std.specs.Option.{option_map_or}
 use Rattle.c_int.specs.declared.control_limit.ControlLimit.{ControlLimit}
 use Rattle.c_int.specs.declared.trap.Trap.TheVariants.{Move, OutputBurst}
-use Rattle.cddf_meaning.specs.Answers.{Answer, Left, traps, and_then, left, with_turns}
+use Rattle.cddf_meaning.specs.Answers.{Answer, Left, passing, and_then, left, with_turns}
 use Rattle.cddf_meaning.specs.Claims.{with_skips, moves_behind, limit}
 use Rattle.cddf_meaning.specs.File.{File, variable}
 use Rattle.cddf_meaning.specs.Flow.{Ran, Ended, given, goes_on}
@@ -16,6 +16,7 @@ use Rattle.cddf_meaning.specs.declared.cursor_move.Move.TheVariants.{Tick}
 use Rattle.cddf_meaning.specs.declared.ending.Ending.TheVariants.{OverBudget, Limited}
 use Rattle.cddf_meaning.specs.declared.variable.Variable.TheVariants.{Window, Stream}
 use Rattle.cddf_meaning.specs.declared.variable.Variable.{Variable}
+use Rattle.flow_core_laws.specs.declared.activation.Activation.{Activation}
 use Rattle.flow_core_laws.specs.declared.claim.Claim.{Claim}
 use Rattle.os_ast.specs.ClauseParts.{ClausePart, Item, Private}
 use Rattle.os_ast.specs.Trees as tree
@@ -40,13 +41,11 @@ stream_number file (tree.Element n m e) s turns = let v = find s.bound n.id in
 
 -- The burst of an input item, or the amount of a tick, is 0 to 65,536; else it is trap 7.
 abbrev pub cursor_move : ℕ → ℤ → Answer ℕ
-cursor_move line (pos n) = if leb n 65536 then Ok n else traps Move line
-cursor_move line (negsuc n) = traps Move line
+cursor_move line v = passing (λ n. leb n 65536) Move line v
 
 -- The burst of an output window is its horizon; else it is trap 8.
 abbrev pub output_burst : (line horizon : ℕ) → ℤ → Answer ℕ
-output_burst line horizon (pos n) = if n == horizon then Ok n else traps OutputBurst line
-output_burst line horizon (negsuc n) = traps OutputBurst line
+output_burst line horizon v = passing (λ n. n == horizon) OutputBurst line v
 
 -- the burst of an item with a window
 abbrev pub burst_of : Direction → (line horizon : ℕ) → ℤ → Answer ℕ
@@ -90,11 +89,13 @@ abbrev pub captured_values : File → BodyState → List ℕ → List ℤ
 captured_values file s ids = map (λ id. scalar_value s (variable file s id)) ids
 
 -- an activation of the task with this number and these captured scalars
+abbrev pub activation_of : File → ℕ → List ℕ → List Claim → BodyState → Activation
+activation_of file site ids claims s = record { site = site; captured = captured_values file s ids; claims = with_skips s.moves claims }
+
+-- the state with one more activation
 abbrev pub with_activation : File → ℕ → List ℕ → List Claim → BodyState → BodyState
-with_activation file site ids claims s = record s {
-  activations = s.activations ++ record { site = site; captured = captured_values file s ids; claims = with_skips s.moves claims } ∷ [];
-  moves = moves_behind s.moves claims;
-}
+with_activation file site ids claims s =
+    record s { activations = s.activations ++ activation_of file site ids claims s ∷ []; moves = moves_behind s.moves claims }
 
 -- the control program ends at a limit; else there is one more activation
 abbrev pub unless_limited : Option ControlLimit → BodyState → ℕ → BodyState → Ran

@@ -1,10 +1,10 @@
 -- The value of an expression, by its 32 bits: as the `int` that has them. C11, 6.5; operands and arguments are evaluated from left
 -- to right. Its type is that of `Types`, and `TypedValue` has both in one, by the operators between values with types.
-use Rattle.std.specs.Prelude.{ℕ, Bool, not, if◌then◌else◌, ltb, List, [], ◌∷◌, length, get_or, Option, Some, ℤ, pos, negsuc, Ok}
+use Rattle.std.specs.Prelude.{ℕ, Bool, not, if◌then◌else◌, ltb, List, [], ◌∷◌, length, get_or, Option, Some, ℤ, pos, Ok}
 use Rattle.std.specs.Int.{w32, cast_signed}
 use Rattle.c_int.specs.Operators.{is_zero, truth}
 use Rattle.c_int.specs.declared.trap.Trap.TheVariants.{Index}
-use Rattle.cddf_meaning.specs.Answers.{Answer, Left, traps, and_then, left, with_turns}
+use Rattle.cddf_meaning.specs.Answers.{Answer, Left, passing, and_then, left, with_turns}
 use Rattle.cddf_meaning.specs.File.{Calls, File, variable, type_in}
 use Rattle.cddf_meaning.specs.Operators.{binary_value, unary_value}
 use Rattle.cddf_meaning.specs.BodyState.{BodyState, item_elements}
@@ -31,8 +31,7 @@ elements s _ = []
 
 -- An index outside 0 to size - 1 is trap 4, with the line of the `[`.
 abbrev pub checked : ℕ → ℕ → ℤ → Answer ℕ
-checked size line (pos i) = if ltb i size then Ok i else traps Index line
-checked size line (negsuc i) = traps Index line
+checked size line i = passing (λ i. ltb i size) Index line i
 
 -- the element at an index
 abbrev pub element_at : List ℤ → ℕ → ℤ → Answer ℤ
