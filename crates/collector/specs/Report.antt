@@ -53,7 +53,5 @@ activation_lines activations input_len ends count = flat_map (activation_line ac
 
 -- The report: the activations that aren't Done, the control program, the output.
 abbrev pub report : List Activation → ℕ → Ends → ControlEnd → List ℕ
-report activations input_len ends control =
-    activation_lines activations input_len ends.ends (length activations)
-    ++ control_line control
-    ++ output_line (length (written ends.output)) (written_count activations 1)
+report activations input_len ends control = activation_lines activations input_len ends.ends (length activations)
+    ++ control_line control ++ output_line (length (written ends.output)) (written_count activations 1)

@@ -14,9 +14,7 @@ has_done end = option_map_or is_done end false
 -- whether the control program ran to its end
 abbrev pub is_done_control : ControlEnd → Bool
 is_done_control control_end.Done = true
-is_done_control (control_end.Trapped _ _) = false
-is_done_control control_end.OverBudget = false
-is_done_control (control_end.Limit _) = false
+is_done_control _ = false
 
 -- The status: 0 where every activation and the control program are Done, else 1.
 abbrev pub status : List (Option TaskEnd) → ControlEnd → ℕ

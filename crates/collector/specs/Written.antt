@@ -6,10 +6,8 @@ use Rattle.flow_core_laws.specs.Byte.{IsByte}
 
 -- The values before the first element that isn't there or is poison.
 abbrev pub complete_prefix : List (Option Elem) → List ℤ
-complete_prefix [] = []
-complete_prefix (None ∷ rest) = []
 complete_prefix (Some (Value value) ∷ rest) = value ∷ complete_prefix rest
-complete_prefix (Some (Poison root) ∷ rest) = []
+complete_prefix _ = []
 
 -- A value of the output as a byte: it is 0 to 255.
 abbrev pub byte_of : ℤ → ℕ

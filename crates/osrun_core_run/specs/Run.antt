@@ -17,13 +17,11 @@ use Rattle.osrun_core_jobs.specs.declared.subject.Subject.TheVariants.{Program, 
 -- What the activation of a number makes of its inputs: what the body of its task does. A number that no activation has
 -- is never asked for.
 abbrev pub body_at : ProgramTree → List Activation → (budget number : ℕ) → List ℤ → Outcome
-body_at p activations budget number inputs =
-    option_map_or (λ (a : Activation). body p a inputs budget) (slice_get activations number) over_budget
+body_at p activations budget number inputs = option_map_or (λ (a : Activation). body p a inputs budget) (slice_get activations number) over_budget
 
 -- What activations come to over an input: the data-flow meaning of their streams, with the bodies of the program.
 abbrev pub ends_over : ProgramTree → List Activation → (input : List ℕ) → (budget : ℕ) → Ends
-ends_over p activations input budget =
-    stream_ends activations input (stream_meaning activations input (body_at p activations budget))
+ends_over p activations input budget = stream_ends activations input (stream_meaning activations input (body_at p activations budget))
 
 -- A run: what the control program created and how it ended, the input, and what the activations came to over it.
 pub record ProgramRun : Type 0 where
