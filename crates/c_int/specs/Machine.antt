@@ -11,17 +11,9 @@ use Rattle.c_int.specs.declared.operators.Unary.TheVariants as unary
 -- The operators that have a form for `unsigned`, with it. The others are the same for both types.
 abbrev pub unsigned_unary : Unary → Unary
 unsigned_unary unary.Minus = unary.MinusUnsigned
-unsigned_unary unary.Plus = unary.Plus
-unsigned_unary unary.Not = unary.Not
-unsigned_unary unary.Invert = unary.Invert
-unsigned_unary unary.MinusUnsigned = unary.MinusUnsigned
+unsigned_unary op = op
 
 abbrev pub unsigned_binary : Binary → Binary
-unsigned_binary binary.BitOr = binary.BitOr
-unsigned_binary binary.BitXor = binary.BitXor
-unsigned_binary binary.BitAnd = binary.BitAnd
-unsigned_binary binary.Equal = binary.Equal
-unsigned_binary binary.Unequal = binary.Unequal
 unsigned_binary binary.Less = binary.LessUnsigned
 unsigned_binary binary.LessEqual = binary.LessEqualUnsigned
 unsigned_binary binary.Greater = binary.GreaterUnsigned
@@ -33,17 +25,7 @@ unsigned_binary binary.Subtract = binary.SubtractUnsigned
 unsigned_binary binary.Multiply = binary.MultiplyUnsigned
 unsigned_binary binary.Divide = binary.DivideUnsigned
 unsigned_binary binary.Remainder = binary.RemainderUnsigned
-unsigned_binary binary.LessUnsigned = binary.LessUnsigned
-unsigned_binary binary.LessEqualUnsigned = binary.LessEqualUnsigned
-unsigned_binary binary.GreaterUnsigned = binary.GreaterUnsigned
-unsigned_binary binary.GreaterEqualUnsigned = binary.GreaterEqualUnsigned
-unsigned_binary binary.ShiftLeftUnsigned = binary.ShiftLeftUnsigned
-unsigned_binary binary.ShiftRightUnsigned = binary.ShiftRightUnsigned
-unsigned_binary binary.AddUnsigned = binary.AddUnsigned
-unsigned_binary binary.SubtractUnsigned = binary.SubtractUnsigned
-unsigned_binary binary.MultiplyUnsigned = binary.MultiplyUnsigned
-unsigned_binary binary.DivideUnsigned = binary.DivideUnsigned
-unsigned_binary binary.RemainderUnsigned = binary.RemainderUnsigned
+unsigned_binary op = op
 
 -- A shift works in the type of its left operand, every other operator in `unsigned` where one operand is.
 abbrev pub works_unsigned : Binary → Bool → Bool → Bool

@@ -44,10 +44,7 @@ quotient a b = if is_zero b then Err DivisorZero else fitting Overflow (int_div 
 
 -- `a % b` is `a - (a / b) * b`, with the traps of `/`.
 abbrev pub remainder : ℤ → ℤ → Operated
-remainder a b =
-    if is_zero b then Err DivisorZero
-    else if is_int (int_div a b) then Ok (a -ℤ (int_div a b *ℤ b))
-    else Err Overflow
+remainder a b = if is_zero b then Err DivisorZero else if is_int (int_div a b) then Ok (a -ℤ (int_div a b *ℤ b)) else Err Overflow
 
 -- `a << n` is `a` times 2 to the n, where `a` isn't negative and the result is an `int`; else trap 3.
 abbrev pub doubled : ℤ → ℕ → Operated

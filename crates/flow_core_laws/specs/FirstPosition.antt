@@ -24,5 +24,4 @@ write_cursor stream claims = sum_by (λ (c : Claim). c.horizon) (filter (is_writ
 -- The first position of a claim, after all the earlier claims: those of earlier activations, and
 -- those before it in its own.
 abbrev pub first_position : List Claim → Claim → ℕ
-first_position earlier claim =
-    if claim.write then write_cursor claim.stream earlier else claim.skip + read_cursor claim.stream earlier
+first_position earlier claim = if claim.write then write_cursor claim.stream earlier else claim.skip + read_cursor claim.stream earlier

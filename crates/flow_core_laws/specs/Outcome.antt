@@ -13,9 +13,7 @@ outcome_at state activation = slice_index_or state activation None
 -- where the end is Done; else none does.
 abbrev pub outcome_of : TaskEnd → List ℤ → Outcome
 outcome_of Done outputs = record { end = Done; outputs = outputs; only_done = λ not_done. absurd (not_done refl) }
-outcome_of (Trapped code line) outputs = record { end = Trapped code line; outputs = []; only_done = λ not_done. refl }
-outcome_of OverBudget outputs = record { end = OverBudget; outputs = []; only_done = λ not_done. refl }
-outcome_of (Poisoned root) outputs = record { end = Poisoned root; outputs = []; only_done = λ not_done. refl }
+outcome_of end outputs = record { end = end; outputs = []; only_done = λ not_done. refl }
 
 -- A state gives each activation an outcome, or none.
 abbrev pub State : Type 0
@@ -29,9 +27,8 @@ ends_of state = map (option_map (λ (o : Outcome). o.end)) state
 -- poison the root that it names. Done has none.
 abbrev pub root_of : ℕ → TaskEnd → Option ℕ
 root_of number Done = None
-root_of number (Trapped _ _) = Some number
-root_of number OverBudget = Some number
 root_of number (Poisoned root) = Some root
+root_of number _ = Some number
 
 -- whether an activation with this end failed itself: it trapped, or used up its turns
 abbrev pub has_failed : TaskEnd → Bool
@@ -43,9 +40,7 @@ has_failed (Poisoned _) = false
 -- whether an end is Done
 abbrev pub is_done : TaskEnd → Bool
 is_done Done = true
-is_done (Trapped _ _) = false
-is_done OverBudget = false
-is_done (Poisoned _) = false
+is_done _ = false
 
 -- whether an activation has an end by a list of ends
 abbrev pub has_end_at : List (Option TaskEnd) → ℕ → Bool

@@ -10,8 +10,7 @@ use Rattle.flow_core_laws.specs.Outcome.{has_end_at}
 -- Whether the element at a place is there, as a value or as poison: an element of the input where its position is
 -- below the length, any other where the activation of its producer has an end.
 abbrev pub is_there : List Activation → ℕ → List (Option TaskEnd) → Place → Bool
-is_there activations input_len ends place =
-    if place.stream == 0 then nat_lt place.position input_len
+is_there activations input_len ends place = if place.stream == 0 then nat_lt place.position input_len
     else option_map_or (λ (w : Window). has_end_at ends w.activation) (producer activations place.stream place.position) false
 
 -- The first missing element of an activation: the first place of its input windows, in clause order
