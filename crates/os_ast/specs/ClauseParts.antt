@@ -1,6 +1,6 @@
 -- The clauses of a task, part by part.
-use Rattle.std.specs.Prelude.{ℕ, suc, ◌==◌, Bool, List, [], ◌∷◌, map, Option}
-use Rattle.std.specs.List.{flat_map, list_any}
+use Rattle.std.specs.Prelude.{ℕ, suc, ◌==◌, ◌||◌, Bool, false, List, [], ◌∷◌, map, Option}
+use Rattle.std.specs.List.{flat_map}
 use Rattle.std.specs.Option.{option_map_or}
 use Rattle.os_ast.specs.Trees as tree
 use Rattle.os_ast.specs.declared.expr.Name.{Name}
@@ -51,4 +51,5 @@ private_ids (Item d i ∷ ps) = private_ids ps
 private_ids (Private n ∷ ps) = n.id ∷ private_ids ps
 
 abbrev pub is_in : ℕ → List ℕ → Bool
-is_in id ids = list_any (λ i. i == id) ids
+is_in id [] = false
+is_in id (i ∷ is) = (i == id) || is_in id is

@@ -5,8 +5,7 @@ use Rattle.os_lexer.specs.declared.token.Token.{Token}
 
 -- the names that have the numbers 0 to 11
 abbrev pub fixed_names : List (List ℕ)
-fixed_names =
-    codes "omp" ∷ codes "task" ∷ codes "tick" ∷ codes "taskwait" ∷ codes "input" ∷ codes "output" ∷
+fixed_names = codes "omp" ∷ codes "task" ∷ codes "tick" ∷ codes "taskwait" ∷ codes "input" ∷ codes "output" ∷
     codes "firstprivate" ∷ codes "stream" ∷ codes "main" ∷ codes "osin" ∷ codes "osout" ∷ codes "osin_len" ∷ []
 
 -- the number of one of them, which is its place in this list

@@ -65,20 +65,19 @@ items_notes s (i ∷ is) = item_notes s i ++ items_notes (after_item s i) is
 
 -- the scope of the file, before its first item; it is no part of `main`
 abbrev pub file : Scope
-file =
-    record {
-      entries = [];
-      depth = 0;
-      owner = owner.OfFunction;
-      loop = false;
-      captured = [];
-      slots = 0;
-      elements = 0;
-      arrays = 0;
-      streams = 0;
-      functions = 0;
-      unsigned = false;
-    }
+file = record {
+  entries = [];
+  depth = 0;
+  owner = owner.OfFunction;
+  loop = false;
+  captured = [];
+  slots = 0;
+  elements = 0;
+  arrays = 0;
+  streams = 0;
+  functions = 0;
+  unsigned = false;
+}
 
 -- what stands at a program's tokens
 abbrev pub program_notes : tree.ProgramTree → List Note
