@@ -1,4 +1,5 @@
 pub mod AtOnce
+pub mod Both
 pub mod Frames
 pub mod Going
 pub mod Moving

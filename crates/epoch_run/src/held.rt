@@ -11,6 +11,7 @@ ghost use Rattle.stream_match.specs.declared.stretch.Stretch.{Stretch};
 ghost use Rattle.stream_match_layouts.specs.Layout.{IsLayout, IsLayoutOf};
 ghost use Rattle.stream_match_layouts.specs.Spans.{frame_count};
 
+use crate::joining::joined;
 use crate::pace::Pace;
 use crate::putting::{take_ends, take_output};
 use crate::unended::still_open;
@@ -55,6 +56,40 @@ impl Held {
     /// Takes what the frames of an epoch came to, and keeps what may still be read. The readers are all activations that had no end
     /// before it, and the frames are some of them.
     pub(crate) fn take(
+        &mut self,
+        alloc: Global,
+        layout: &Layout,
+        readers: &[u32],
+        frames: &[u32],
+        leaves: &[Stretch],
+        run: &Ends,
+    ) -> Result<(), Memory>
+        requires layout { IsLayout layout.now }
+        requires readers { readers.now ≡ open_in self.old.ends.ends (frame_count layout.now) }
+        requires frames { AreFrames layout.now frames.now }
+        requires are_open { (f a : ℕ) → slice_get frames.now f ≡ Some a → outcome_at self.old.ends.ends a ≡ None }
+        requires ends_fit { length run.now.ends ≡ length frames.now }
+        requires values_fit { length run.now.output ≡ length (flat_map stretch_places leaves.now) }
+        requires more { length self.old.ends.ends ≤ frame_count layout.now }
+        requires longer { length self.old.ends.output ≤ slice_index layout.now.writes 1 }
+        requires kept_exist { All (λ k. k.stream < length layout.now.writers) self.old.kept.items }
+        requires small { All (λ (s : Stretch). s.first + s.count < 2 ^ 64) leaves.now }
+        requires places_exist { All (λ (p : Place). p.stream < length layout.now.writers) (flat_map stretch_places leaves.now) }
+        ensures ends { OnOk result (self.new.ends.ends
+            ≡ put_over self.old.ends.ends frames.now run.now.ends (frame_count layout.now)) }
+        ensures without_end { OnOk result (self.new.without_end ≡ open_in self.new.ends.ends (frame_count layout.now)) }
+        ensures output { OnOk result (self.new.ends.output
+            ≡ output_over self.old.ends.output (flat_map stretch_places leaves.now) run.now.output (slice_index layout.now.writes 1)) }
+        ensures kept { OnOk result ((activations : List Activation) → IsLayoutOf layout.now activations
+            → map kept_of self.new.kept.items ≡ carried_over activations (open_in self.new.ends.ends (frame_count layout.now))
+            (map kept_of self.old.kept.items) (flat_map stretch_places leaves.now) run.now.output) }
+    {
+        let leaves = joined(alloc, leaves)?;
+        self.take_joined(alloc, layout, readers, frames, leaves.as_slice(), run)
+    }
+
+    /// Takes what they came to by the stretches as they are: each of them is put and carried over by itself.
+    fn take_joined(
         &mut self,
         alloc: Global,
         layout: &Layout,

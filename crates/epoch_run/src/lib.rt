@@ -18,6 +18,7 @@ mod beside;
 mod epoch;
 mod epochs;
 mod held;
+mod joining;
 mod open_bodies;
 mod pace;
 mod plan;

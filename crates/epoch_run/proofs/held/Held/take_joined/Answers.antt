@@ -10,7 +10,7 @@ use Rattle.stream_match.specs.Stretch.{stretch_places}
 use Rattle.stream_match_layouts.specs.Spans.{frame_count}
 use Rattle.epoch_run.proofs.Frames.{all_exist, are_frames, frames_differ}
 use Rattle.epoch_run.proofs.Listing.{still_listed}
-use Rattle.epoch_run.proofs.held.Held.take.Goals as goal
+use Rattle.epoch_run.proofs.held.Held.take_joined.Goals as goal
 
 pub carry_over-requires-clause-exist : goal.carry_over-requires-clause-exist
 carry_over-requires-clause-exist c =
