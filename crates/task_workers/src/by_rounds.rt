@@ -1,11 +1,11 @@
-ghost use Rattle.std.specs.Prelude.{◌≡◌, ◌≤◌, ◌+◌, [], IfOk, OnOk, length, slice_range};
+ghost use Rattle.std.specs.Prelude.{◌≡◌, ◌≤◌, ◌+◌, IfOk, length, slice_range};
 ghost use Rattle.flow_core_laws.specs.Outcome.{ends_of};
 ghost use Rattle.flow_core_laws.specs.Plans.{plan_meaning, sink_elements};
 ghost use Rattle.flow_core_laws.specs.IsSound.{IsSound};
 ghost use Rattle.flow_core_laws.specs.Serves.{Serves};
 
 use crate::rounds::run_rounds;
-use flow_core::{Board, Bodies, Ends, Plan};
+use flow_core::{Board, Bodies, Elem, Ends, Plan};
 use os_io::{List, Memory};
 use std::alloc::Global;
 use std::thread::Threads;
@@ -40,10 +40,10 @@ pub fn execute_rounds<R: Threads + Sync, B: Bodies, G: Gate>(
     if hands == 1 {
         return execute_alone(alloc, plan, bodies, gate);
     }
-    let empty = empty_ends(alloc, plan)?;
     let mut results = Results::new(alloc, plan)?;
     let mut hired = hire(alloc, plan, bodies, hands)?;
     let mut board = Board::open(alloc, plan)?;
+    let opening = opening_ends(alloc, plan, &board)?;
     run_rounds(
         rt,
         plan,
@@ -54,7 +54,7 @@ pub fn execute_rounds<R: Threads + Sync, B: Bodies, G: Gate>(
         results.outputs.as_mut_slice(),
         hired.as_mut_slice(),
     )?;
-    let ends = collect(plan, &board, empty)?;
+    let ends = collect(plan, &board, opening);
     Ok(ends)
 }
 
@@ -72,11 +72,11 @@ fn execute_alone<B: Bodies, G: Gate>(
     ensures output { IfOk result (λ e. e.output
         ≡ sink_elements plan.now (plan_meaning plan.now (B.outcome bodies.now))) }
 {
-    let empty = empty_ends(alloc, plan)?;
     let mut outputs = Vec::new(alloc);
     outputs.resize(most_outputs(plan), 0)?;
     let mut hired = hire(alloc, plan, bodies, 1)?;
     let mut board = Board::open(alloc, plan)?;
+    let opening = opening_ends(alloc, plan, &board)?;
     run_alone(
         plan,
         bodies,
@@ -85,50 +85,51 @@ fn execute_alone<B: Bodies, G: Gate>(
         outputs.as_mut_slice(),
         &mut hired[0],
     )?;
-    let ends = collect(plan, &board, empty)?;
+    let ends = collect(plan, &board, opening);
     Ok(ends)
 }
 
-/// No ends yet, with room for those of a plan and for its output.
-fn empty_ends(alloc: Global, plan: &Plan) -> Result<Ends, Memory>
-    ensures { IfOk result (λ e. (e.ends ≡ []) × (e.output ≡ [])) }
+/// What a run has come to at opening: lists that are as long as what it comes to.
+fn opening_ends(alloc: Global, plan: &Plan, board: &Board) -> Result<Ends, Memory>
+    requires { plan.now.sink.cell + plan.now.sink.inputs ≤ length board.now.cells.items }
+    ensures ends { IfOk result (λ e. length e.ends ≡ length board.now.ends.items) }
+    ensures output { IfOk result (λ e. length e.output ≡ plan.now.sink.inputs) }
 {
-    let ends = list_with_room(alloc, plan.frames.len())?;
-    let output = list_with_room(alloc, plan.sink.inputs as usize)?;
-    Ok(Ends { ends, output })
+    Ok(Ends {
+        ends: List::from_slice(alloc, board.ends.as_slice())?,
+        output: List::from_slice(alloc, sink_cells(plan, board))?,
+    })
 }
 
-/// What a run came to: the ends, and the sink cells.
-fn collect(plan: &Plan, board: &Board, mut into: Ends) -> Result<Ends, Memory>
+/// Puts what a run came to over what it had come to at opening: the ends, and the sink cells.
+fn collect(plan: &Plan, board: &Board, mut into: Ends) -> Ends
     requires exists { plan.now.sink.cell + plan.now.sink.inputs ≤ length board.now.cells.items }
-    requires empty { (into.ends ≡ []) × (into.output ≡ []) }
-    ensures ends { IfOk result (λ e. e.ends ≡ board.now.ends.items) }
-    ensures output { IfOk result (λ e. e.output
-        ≡ slice_range board.now.cells.items plan.now.sink.cell (plan.now.sink.cell + plan.now.sink.inputs)) }
+    requires ends { length into.ends ≡ length board.now.ends.items }
+    requires output { length into.output ≡ plan.now.sink.inputs }
+    ensures ends { result.ends ≡ board.now.ends.items }
+    ensures output { result.output
+        ≡ slice_range board.now.cells.items plan.now.sink.cell (plan.now.sink.cell + plan.now.sink.inputs) }
+{
+    put(&mut into.ends, board.ends.as_slice());
+    put(&mut into.output, sink_cells(plan, board));
+    into
+}
+
+/// The cells of the sink.
+fn sink_cells<'b>(plan: &Plan, board: &'b Board) -> &'b [Option<Elem>]
+    requires { plan.now.sink.cell + plan.now.sink.inputs ≤ length board.now.cells.items }
+    ensures cells { result.now
+        ≡ slice_range board.now.cells.items plan.now.sink.cell (plan.now.sink.cell + plan.now.sink.inputs) }
+    ensures length { length result.now ≡ plan.now.sink.inputs }
 {
     let first = plan.sink.cell as usize;
-    let sink = &board.cells[first..first + plan.sink.inputs as usize];
-    fill(&mut into.ends, board.ends.as_slice())?;
-    fill(&mut into.output, sink)?;
-    Ok(into)
+    &board.cells[first..first + plan.sink.inputs as usize]
 }
 
-/// An empty list with room for so many items.
-fn list_with_room<T: Drop>(alloc: Global, room: usize) -> Result<List<T>, Memory>
-    ensures { IfOk result (λ list. list ≡ []) }
+/// Puts items over as many of a list.
+fn put<T: Copy>(list: &mut List<T>, items: &[T])
+    requires { length list.old ≡ length items.now }
+    ensures { list.new ≡ items.now }
 {
-    let mut list = List::new(alloc);
-    list.reserve(room)?;
-    Ok(list)
-}
-
-/// Puts items into an empty list.
-fn fill<T: Copy + Drop>(list: &mut List<T>, items: &[T]) -> Result<(), Memory>
-    requires { list.old ≡ [] }
-    ensures { OnOk result (list.new ≡ items.now) }
-{
-    for item in items {
-        list.push(*item)?;
-    }
-    Ok(())
+    list.as_mut_slice().copy_from_slice(items);
 }
