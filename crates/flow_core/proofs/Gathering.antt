@@ -2,19 +2,11 @@
 use Rattle.std.proofs.Common.{◌≡◌, ℕ, ◌+◌, ◌<◌, ℤ, List, [], ◌∷◌, ◌++◌, Option, Some, None, length, get_or, take, refl, sym, ap, ◌∙◌, subst}
 use Rattle.std.specs.Prelude.{min}
 use Rattle.std.specs.Option.{option_map_or}
-use Rattle.flow_core_laws.specs.Round.{gathered}
 use Rattle.flow_core_laws.proofs.Gathering.{gathered-take_more}
 use Rattle.flow_core_laws.specs.declared.elem.Elem.{Elem}
 use Rattle.flow_core_laws.specs.declared.elem.Elem.TheVariants.{Value, Poison}
-use Rattle.flow_core_laws.specs.Poisoning.{values_of, least_root}
+use Rattle.flow_core.specs.Gathered.{AreGathered}
 use Rattle.flow_core_laws.proofs.OneMore.{values-value, values-poison, least_root-value, least_root-poison}
-
--- the elements of a list of cells were gathered: their values, and the least root
-pub record AreGathered (cells : List (Option Elem)) (least : Option ℕ) (values : List ℤ) : Type 0 where
-  pub elements : List Elem
-  pub are_there : gathered cells ≡ Some elements
-  pub least_is : least ≡ least_root elements
-  pub values_are : values ≡ values_of elements
 
 pub AreGathered-none : AreGathered [] None []
 AreGathered-none = record { elements = []; are_there = refl; least_is = refl; values_are = refl }

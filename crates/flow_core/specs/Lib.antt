@@ -3,3 +3,4 @@ pub mod Waits
 pub mod Counted
 pub mod Shows
 pub mod Board
+pub mod Gathered

@@ -1,4 +1,4 @@
-ghost use Rattle.std.specs.Prelude.{◌≡◌, ◌+◌, ◌-◌, ◌<◌, ◌≤◌, ℕ, Some, None, OnOk, IfOk, length, slice_get, slice_set, slice_range, map};
+ghost use Rattle.std.specs.Prelude.{◌≡◌, ◌+◌, ◌-◌, ◌<◌, ◌≤◌, ℕ, Some, None, OnOk, IfOk, length, slice_get, slice_set, slice_range, map, replicate};
 ghost use Rattle.flow_core_laws.specs.Plans.{frame_at};
 ghost use Rattle.flow_core_laws.specs.IsSound.{IsSound};
 ghost use Rattle.flow_core_laws.specs.Outcome.{State};
@@ -33,12 +33,12 @@ impl Board {
         ensures waiting { IfOk result (λ b. b.ends.items ≡ map (λ _. None) plan.now.frames) }
     {
         let cells = Vec::from_slice(alloc, plan.filled.as_slice())?;
+        let ends = no_ends(alloc, plan.frames.len())?;
         let mut waits = Waits::new(alloc);
+        waits.missing.reserve(plan.frames.len())?;
         waits.opened.reserve(plan.frames.len())?;
-        let mut ends = Vec::new(alloc);
         for frame in plan.frames.as_slice() {
             waits.add(frame.wait)?;
-            ends.push(None)?;
         }
         Ok(Board { cells, waits, ends })
     }
@@ -142,4 +142,13 @@ impl Board {
         }
         Ok(())
     }
+}
+
+/// No end for each of so many frames.
+fn no_ends(alloc: Global, frames: usize) -> Result<Vec<Option<TaskEnd>>, Memory>
+    ensures { IfOk result (λ ends. ends.items ≡ replicate frames None) }
+{
+    let mut ends = Vec::new(alloc);
+    ends.resize(frames, None)?;
+    Ok(ends)
 }

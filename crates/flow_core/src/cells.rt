@@ -1,4 +1,4 @@
-ghost use Rattle.std.specs.Prelude.{◌≡◌, ◌+◌, ◌<◌, ◌≤◌, ℕ, List, Option, Some, None, IsSome, IfOk, OnOk, length, slice_get, min};
+ghost use Rattle.std.specs.Prelude.{◌≡◌, ◌+◌, ◌<◌, ◌≤◌, ℕ, List, Option, Some, None, IsSome, IfOk, OnOk, length, slice_get, min, true};
 ghost use Rattle.std.specs.Option.{option_map_or};
 ghost use Rattle.flow_core_laws.specs.Round.{gathered};
 ghost use Rattle.flow_core_laws.specs.declared.elem.Elem.{Elem};
@@ -6,6 +6,7 @@ ghost use Rattle.flow_core_laws.specs.Element.{output_element};
 ghost use Rattle.flow_core_laws.specs.Plans.{held_at};
 ghost use Rattle.flow_core_laws.specs.Poisoning.{values_of, least_root};
 ghost use Rattle.flow_core.specs.Counted.{HasOutputs};
+ghost use Rattle.flow_core.specs.Gathered.{AreGathered};
 
 use flow_core_laws::{Elem, Piece};
 use os_io::Memory;
@@ -52,6 +53,47 @@ fn lesser(least: Option<u32>, root: u32) -> u32
 /// Puts the values of cells, which all hold an element, into a buffer in place of what it holds. The answer is
 /// the least root among those that are poison.
 pub fn gather(cells: &[Option<Elem>], into: &mut Vec<i32>) -> Result<Option<u32>, Memory>
+    requires { IsSome (gathered cells.now) }
+    ensures root { (elements : List Elem) → gathered cells.now ≡ Some elements
+        → IfOk result (λ root. root ≡ least_root elements) }
+    ensures values { (elements : List Elem) → gathered cells.now ≡ Some elements
+        → OnOk result (into.new.items ≡ values_of elements) }
+{
+    fit(into, cells.len())?;
+    if put_values(into.as_mut_slice(), cells) {
+        return Ok(None);
+    }
+    gather_all(cells, into)
+}
+
+/// Gives a buffer so many places, whatever they hold.
+fn fit(into: &mut Vec<i32>, count: usize) -> Result<(), Memory>
+    ensures { OnOk result (length into.new.items ≡ count) }
+{
+    if into.len() == count {
+        return Ok(());
+    }
+    into.resize(count, 0)?;
+    Ok(())
+}
+
+/// Puts the values of cells into as many places, up to the first one that holds poison. It answers whether all hold a value, as they
+/// mostly do.
+fn put_values(into: &mut [i32], cells: &[Option<Elem>]) -> bool
+    requires { length into.old ≡ length cells.now }
+    ensures { result ≡ true → AreGathered cells.now None into.new }
+{
+    for number in 0..cells.len() {
+        let Some(Elem::Value(value)) = cells[number] else {
+            return false;
+        };
+        into[number] = value;
+    }
+    true
+}
+
+/// Puts the values of cells into a buffer, one after the other, and finds the least root.
+fn gather_all(cells: &[Option<Elem>], into: &mut Vec<i32>) -> Result<Option<u32>, Memory>
     requires { IsSome (gathered cells.now) }
     ensures root { (elements : List Elem) → gathered cells.now ≡ Some elements
         → IfOk result (λ root. root ≡ least_root elements) }

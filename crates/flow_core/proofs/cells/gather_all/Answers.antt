@@ -4,8 +4,8 @@ use Rattle.std.proofs.lemmas.Grind.{common_steps}
 use Rattle.flow_core_laws.proofs.Gathering.{is_there}
 use Rattle.flow_core_laws.specs.declared.elem.Elem.TheVariants.{Value, Poison}
 use Rattle.flow_core.proofs.Gathering.{AreGathered-as_value, AreGathered-as_poison}
-use Rattle.flow_core.proofs.cells.gather.Goals as goal
-use Rattle.flow_core.proofs.cells.gather.Goals.{in-Some-Value+in_ok-push-in-Some-Value, in-Some-Poison, in-None}
+use Rattle.flow_core.proofs.cells.gather_all.Goals as goal
+use Rattle.flow_core.proofs.cells.gather_all.Goals.{in-Some-Value+in_ok-push-in-Some-Value, in-Some-Poison, in-None}
 
 pub loop-cell-preserved : goal.loop-cell-preserved
 loop-cell-preserved c = elim c.match-cell.branch [
