@@ -44,7 +44,7 @@ pub(crate) fn weave_rows(
     let count = left.next - read.next;
     let filled = filled(alloc, frames.len(), kept, input, reads, count, left.next)?;
     let mut pieces = gathered(alloc, layout, frames, reads, left.pieces.len())?;
-    append(&mut pieces, left.pieces.as_slice())?;
+    append(alloc, &mut pieces, left.pieces.as_slice())?;
     let waits = filled.waits.as_slice();
     let plans = epoch_frames(alloc, layout, frames, pieces.as_slice(), waits)?;
     let carried = pieces.len() as u32;
