@@ -6,4 +6,5 @@ pub mod Moving
 pub mod Over
 pub mod Step
 pub mod Stretches
+pub mod Joining
 pub mod Listing

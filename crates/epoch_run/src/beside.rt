@@ -1,13 +1,17 @@
-ghost use Rattle.std.specs.Prelude.{◌≡◌, ◌≤◌, IfOk, OnOk, length, nat_lt};
+ghost use Rattle.std.specs.Prelude.{◌≡◌, ◌≤◌, IfOk, List, OnOk, length, nat_lt};
 ghost use denote.Param.Send.{IsSync};
-ghost use Rattle.control_run.specs.Stretches.{remaining};
+ghost use Rattle.control_run.specs.Stretches.{RunSoFar, remaining};
+ghost use Rattle.flow_core_laws.specs.declared.activation.Activation.{Activation};
 ghost use Rattle.os_code.specs.Codes.{parts_of};
+ghost use Rattle.stream_match_layouts.specs.Layout.{TakesMore};
 ghost use Rattle.epoch_run.specs.Bodies.{HaveOpen, all_of};
 ghost use Rattle.epoch_run.specs.Held.{IsHeldOf, IsOpenEpoch};
+ghost use Rattle.epoch_run.specs.NextSpans.{ComeBehind, joined};
 ghost use Rattle.epoch_run.specs.Standing.{HasAdvanced, HasCreated};
 
 use crate::epoch::run_epoch;
 use crate::held::Held;
+use crate::next_spans::NextSpans;
 use crate::open_bodies::OpenBodies;
 use crate::size::EpochSize;
 use control_run::ControlRun;
@@ -19,7 +23,8 @@ use stream_match::Layout;
 use task_workers::Gate;
 
 /// Runs an epoch, and at once has the control program create the new activations of the next one: they are put behind those
-/// of a list. After `Memory` all that was lent may be anything, and the caller gives the run up.
+/// of a list, and their positions are worked out. After `Memory` all that was lent may be anything, and the caller gives the run
+/// up.
 pub(crate) fn run_and_advance<R: Threads + Sync, G: Gate>(
     rt: &R,
     alloc: Global,
@@ -32,14 +37,19 @@ pub(crate) fn run_and_advance<R: Threads + Sync, G: Gate>(
     control: &mut ControlRun<'_>,
     next: &mut List<Activation>,
     size: EpochSize,
-) -> Result<(), Memory>
+) -> Result<NextSpans, Memory>
     requires workers { (1 ≤ workers) × (workers ≤ 64) }
     requires open { IsOpenEpoch bodies.now.code.now (all_of bodies.now) bodies.now.budgets.task layout.now input.now held.old }
     requires there { HaveOpen bodies.now held.old.ends.ends }
     requires some { 1 ≤ size.activations }
+    requires takes { (after : RunSoFar) (added : List Activation)
+        → HasAdvanced size.activations control.old after next.old added → TakesMore layout.now added }
     ensures held { OnOk result (IsHeldOf (parts_of bodies.now.code.now) (all_of bodies.now) input.now bodies.now.budgets.task held.new) }
     ensures advanced { OnOk result (HasAdvanced size.activations control.old control.new next.old next.new) }
+    ensures laid { IfOk result (λ laid. ComeBehind layout.now next.new laid) }
 {
+    let new = (bodies.count as usize).saturating_sub(held.ends.ends.len());
+    let mut laid = NextSpans::behind(alloc, layout, new)?;
     let mut run = || -> Result<(), Memory>
         requires { IsSync R.row × IsSync G.row × (1 ≤ workers) × (workers ≤ 64)
             × IsOpenEpoch bodies.now.code.now (all_of bodies.now) bodies.now.budgets.task layout.now input.now held.now
@@ -48,11 +58,36 @@ pub(crate) fn run_and_advance<R: Threads + Sync, G: Gate>(
             bodies.entry.now.budgets.task held.exit.now) }
     { run_epoch(rt, alloc, bodies, layout, input, workers, gate, held) };
     let mut create = || -> Result<(), Memory>
-        requires { 1 ≤ size.activations }
-        ensures { OnOk result (HasAdvanced size.activations control.entry.now control.exit.now next.entry.now next.exit.now) }
-    { advance(control, next, size) };
+        requires { (1 ≤ size.activations)
+            × ((after : RunSoFar) (added : List Activation) → HasAdvanced size.activations control.now after next.now added → TakesMore layout.now added)
+            × (joined layout.now laid ≡ layout.now) }
+        ensures { OnOk result (HasAdvanced size.activations control.entry.now control.exit.now next.entry.now next.exit.now
+            × ComeBehind layout.entry.now next.exit.now laid.exit) }
+    { advance_and_lay_out(layout, control, next, &mut laid, size) };
     let (created, ran) = join_mut(rt, &mut create, &mut run);
-    ran.and(created)
+    ran?;
+    created?;
+    Ok(laid)
+}
+
+/// Has the control program create the new activations of an epoch, and works out their positions behind a layout.
+fn advance_and_lay_out(
+    layout: &Layout,
+    control: &mut ControlRun<'_>,
+    next: &mut List<Activation>,
+    laid: &mut NextSpans,
+    size: EpochSize,
+) -> Result<(), Memory>
+    requires some { 1 ≤ size.activations }
+    requires takes { (after : RunSoFar) (added : List Activation)
+        → HasAdvanced size.activations control.old after next.old added → TakesMore layout.now added }
+    requires none { joined layout.now laid.old ≡ layout.now }
+    ensures advanced { OnOk result (HasAdvanced size.activations control.old control.new next.old next.new) }
+    ensures laid { OnOk result (ComeBehind layout.now next.new laid.new) }
+{
+    advance(control, next, size)?;
+    laid.add_all(layout, next.as_slice())?;
+    Ok(())
 }
 
 /// Has the control program create the new activations of an epoch, stretch by stretch.

@@ -19,6 +19,7 @@ mod epoch;
 mod epochs;
 mod held;
 mod joining;
+mod next_spans;
 mod open_bodies;
 mod pace;
 mod plan;

@@ -6,6 +6,7 @@ ghost use Rattle.os_code.specs.declared.code.Code.{Code};
 ghost use Rattle.os_code.specs.Outcomes.{control};
 ghost use Rattle.stream_match_layouts.specs.Layout.{IsLayout, IsLayoutOf};
 ghost use Rattle.epoch_run_bodies.specs.Frames.{code_ends};
+ghost use Rattle.epoch_run.specs.NextSpans.{ComeBehind};
 ghost use Rattle.epoch_run.specs.Run.{AreBudgets, created};
 ghost use Rattle.epoch_run.specs.Standing.{HasAdvanced, HasRun, StandsAt};
 ghost use Rattle.epoch_run.specs.declared.result.Budgets.{Budgets};
@@ -15,6 +16,7 @@ use crate::at_once::run_at_once;
 use crate::beside::{advance, run_and_advance};
 use crate::epoch::run_epoch;
 use crate::held::Held;
+use crate::next_spans::NextSpans;
 use crate::open_bodies::OpenBodies;
 use crate::result::Budgets;
 use crate::size::EpochSize;
@@ -93,16 +95,16 @@ impl<'c> Standing<'c> {
         ensures end { IfOk result (λ end. IfSome end (λ e. e ≡ (control (parts_of code.now) (length input.now) budgets.control).end)) }
     {
         let mut next = List::new(alloc);
-        self.run_and_create(
+        let laid = self.run_and_create(
             rt, alloc, code, input, budgets, workers, gate, &mut next, size,
         )?;
-        add(alloc, &mut self.activations, &mut self.layout, next)?;
+        add(alloc, &mut self.activations, &mut self.layout, next, laid)?;
         Ok(self.control.end())
     }
 
     /// Runs an epoch, and has the control program create the new activations of the next one, behind those of a list: beside the
     /// epoch where several workers run it. One worker gives up what has ended before more is created, so that one epoch's
-    /// activations alone are held.
+    /// activations alone are held. It answers their positions where they were worked out beside the epoch too.
     fn run_and_create<R: Threads + Sync, G: Gate>(
         &mut self,
         rt: &R,
@@ -114,21 +116,25 @@ impl<'c> Standing<'c> {
         gate: &G,
         next: &mut List<Activation>,
         size: EpochSize,
-    ) -> Result<(), Memory>
+    ) -> Result<Option<NextSpans>, Memory>
         requires workers { (1 ≤ workers) × (workers ≤ 64) }
         requires budgets { AreBudgets budgets }
         requires stands { StandsAt code.now input.now budgets self.old }
         requires some { 1 ≤ size.activations }
+        requires none { next.old ≡ [] }
         ensures run { OnOk result (HasRun code.now input.now budgets (given_by self.old.control) self.new) }
         ensures advanced { OnOk result (HasAdvanced size.activations self.old.control self.new.control next.old next.new) }
         ensures layout { OnOk result (self.new.layout ≡ self.old.layout) }
+        ensures laid { IfOk result (λ laid. IfSome laid (λ spans. ComeBehind self.old.layout next.new spans)) }
     {
         if workers > 1 && self.has_new() {
-            return self.run_beside(rt, alloc, code, input, budgets, workers, gate, next, size);
+            let laid = self.run_beside(rt, alloc, code, input, budgets, workers, gate, next, size)?;
+            return Ok(Some(laid));
         }
         self.run(rt, alloc, code, input, budgets, workers, gate)?;
         self.give_up_ended(alloc);
-        advance(&mut self.control, next, size)
+        advance(&mut self.control, next, size)?;
+        Ok(None)
     }
 
     /// Whether some of the activations are new.
@@ -150,14 +156,16 @@ impl<'c> Standing<'c> {
         gate: &G,
         next: &mut List<Activation>,
         size: EpochSize,
-    ) -> Result<(), Memory>
+    ) -> Result<NextSpans, Memory>
         requires workers { (1 ≤ workers) × (workers ≤ 64) }
         requires budgets { AreBudgets budgets }
         requires stands { StandsAt code.now input.now budgets self.old }
         requires some { 1 ≤ size.activations }
+        requires none { next.old ≡ [] }
         ensures run { OnOk result (HasRun code.now input.now budgets (given_by self.old.control) self.new) }
         ensures advanced { OnOk result (HasAdvanced size.activations self.old.control self.new.control next.old next.new) }
         ensures layout { OnOk result (self.new.layout ≡ self.old.layout) }
+        ensures laid { IfOk result (λ laid. ComeBehind self.old.layout next.new laid) }
     {
         later_activations_change_nothing();
         let bodies = OpenBodies {
@@ -168,7 +176,7 @@ impl<'c> Standing<'c> {
             first: self.first,
             activations: self.activations.as_slice(),
         };
-        run_and_advance(
+        let laid = run_and_advance(
             rt,
             alloc,
             &bodies,
@@ -182,7 +190,7 @@ impl<'c> Standing<'c> {
             size,
         )?;
         self.give_up_ended(alloc);
-        Ok(())
+        Ok(laid)
     }
 
     /// Runs the activations that have no end yet, and nothing else.

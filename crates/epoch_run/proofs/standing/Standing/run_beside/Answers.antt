@@ -5,7 +5,7 @@ use Rattle.os_code.specs.Codes.{parts_of}
 use Rattle.os_code.specs.Outcomes.{control}
 use Rattle.stream_match_layouts.proofs.Sums.{frames_bound}
 use Rattle.epoch_run.specs.Held.{IsHeldOf}
-use Rattle.epoch_run.proofs.Going.{as_many_ends, first_created, has_run, opens, whole_layout}
+use Rattle.epoch_run.proofs.Going.{as_many_ends, first_created, has_run, opens, takes_more, whole_layout}
 use Rattle.epoch_run.proofs.standing.Standing.run_beside.Goals as goal
 
 pub overflow_cast-bodies : goal.overflow_cast-bodies
@@ -27,13 +27,17 @@ run_and_advance-requires-clause-there g c κs within =
       have_ended = c.requires.stands.have_ended;
     }
 
+pub run_and_advance-requires-clause-takes : goal.run_and_advance-requires-clause-takes
+run_and_advance-requires-clause-takes g c κs within = λ after added advanced.
+    takes_more c.args.code.now c.args.input.now c.args.budgets c.args.self.now c.requires.budgets c.requires.stands c.args.size.activations after c.args.next.now added c.requires.none advanced
+
 pub give_up_ended-requires : goal.give_up_ended-requires
 give_up_ended-requires g c =
     let s = c.args.self.now in
     let n = as_many_ends c.args.code.now c.args.input.now c.args.budgets s c.requires.budgets c.requires.stands c.run_and_advance.new.held
     (subst (λ (xs : List Activation). IsHeldOf (parts_of c.args.code.now) xs c.args.input.now c.args.budgets.task c.run_and_advance.new.held)
     (first_created c.args.code.now c.args.input.now c.args.budgets s c.requires.budgets c.requires.stands c.frames.result s.layout.input_len c.frames.ensures c.requires.stands.over)
-    c.in_ok-run_and_advance.ensures.held) in
+    c.in_ok-laid.ensures.held) in
     let f = c.requires.stands.lawful.activations_are_few in
     omega (arith, n, f)
 
@@ -44,4 +48,4 @@ returns-clause-run g c =
     (has_run c.args.code.now c.args.input.now c.args.budgets s c.requires.budgets c.requires.stands c.later_activations_change_nothing.ensures c.run_and_advance.new.control c.run_and_advance.new.held
     (subst (λ (xs : List Activation). IsHeldOf (parts_of c.args.code.now) xs c.args.input.now c.args.budgets.task c.run_and_advance.new.held)
     (first_created c.args.code.now c.args.input.now c.args.budgets s c.requires.budgets c.requires.stands c.frames.result s.layout.input_len c.frames.ensures c.requires.stands.over)
-    c.in_ok-run_and_advance.ensures.held))
+    c.in_ok-laid.ensures.held))

@@ -1,0 +1,175 @@
+ghost use Rattle.std.specs.Prelude.{◌≡◌, ◌∷◌, ◌++◌, ◌+◌, ◌^◌, ◌<◌, [], All, IfOk, List, OnOk, length, slice_set};
+ghost use Rattle.flow_core_laws.specs.declared.activation.Activation.{Activation};
+ghost use Rattle.stream_match_layouts.specs.Layout.{IsLayoutOf, TakesMore};
+ghost use Rattle.stream_match_layouts.specs.declared.layout.Layout.{Layout};
+ghost use Rattle.stream_match_layouts.specs.declared.span.Span.{Span};
+ghost use Rattle.epoch_run.specs.NextSpans.{FitBehind, HasCursors, joined, with_next, with_writer, with_writers};
+
+use flow_core_laws::{Activation, Claim};
+use os_io::{List, Memory};
+use std::alloc::Global;
+use stream_match::{Layout, Span};
+
+/// The positions of activations that come next, apart from the layout that they are to stand behind: so they are worked out while
+/// workers read that layout. What it holds is counted on from the layout, and is put behind it as it stands.
+#[derive(Drop)]
+pub(crate) struct NextSpans {
+    /// A span for each claim, as the layout will have it.
+    pub spans: List<Span>,
+    /// Where the spans of each activation end, counted from the layout's first span on.
+    pub starts: List<u32>,
+    /// The read cursor of each stream behind these activations.
+    pub reads: List<u64>,
+    /// The write cursor of each stream behind them.
+    pub writes: List<u64>,
+}
+
+impl NextSpans {
+    /// Those of no activation, behind a layout, with memory for so many activations of two claims each.
+    pub(crate) fn behind(
+        alloc: Global,
+        layout: &Layout,
+        activations: usize,
+    ) -> Result<NextSpans, Memory>
+        ensures { IfOk result (λ next. joined layout.now next ≡ layout.now) }
+    {
+        let mut next = NextSpans {
+            spans: List::new(alloc),
+            starts: List::new(alloc),
+            reads: List::from_slice(alloc, layout.reads.as_slice())?,
+            writes: List::from_slice(alloc, layout.writes.as_slice())?,
+        };
+        next.spans.reserve(activations.saturating_mul(2))?;
+        next.starts.reserve(activations)?;
+        Ok(next)
+    }
+
+    /// Adds the next activations, one by one. After `Memory` it may hold anything, and is to be given up.
+    pub(crate) fn add_all(
+        &mut self,
+        layout: &Layout,
+        activations: &[Activation],
+    ) -> Result<(), Memory>
+        requires { TakesMore (joined layout.now self.old) activations.now }
+        ensures { OnOk result ((before : List Activation) → IsLayoutOf (joined layout.now self.old) before
+            → IsLayoutOf (joined layout.now self.new) (before ++ activations.now)) }
+    {
+        for activation in activations {
+            self.add(layout, activation)?;
+        }
+        Ok(())
+    }
+
+    /// Adds the next activation.
+    fn add(&mut self, layout: &Layout, activation: &Activation) -> Result<(), Memory>
+        requires { TakesMore (joined layout.now self.old) (activation.now ∷ []) }
+        ensures { OnOk result ((before : List Activation) → IsLayoutOf (joined layout.now self.old) before
+            → IsLayoutOf (joined layout.now self.new) (before ++ activation.now ∷ [])) }
+    {
+        let frame = (layout.starts.len() + self.starts.len() - 1) as u16;
+        let mut inputs = 0;
+        let mut outputs = 0;
+        for claim in activation.claims.as_slice() {
+            if claim.write {
+                self.take(frame, claim, outputs)?;
+                outputs += claim.horizon;
+            } else {
+                self.take(frame, claim, inputs)?;
+                inputs += claim.horizon;
+            }
+        }
+        self.starts
+            .push((layout.spans.len() + self.spans.len()) as u32)?;
+        Ok(())
+    }
+
+    /// Adds a claim of an activation, where its windows before this one take so many inputs or outputs.
+    fn take(&mut self, frame: u16, claim: &Claim, offset: u32) -> Result<(), Memory>
+        requires { HasCursors self.old claim.now }
+        ensures { OnOk result (self.new ≡ with_next self.old frame claim.now offset) }
+    {
+        let stream = claim.stream as usize;
+        let first = if claim.write {
+            let first = self.writes.as_slice()[stream];
+            set(&mut self.writes, stream, first + u64::from(claim.horizon));
+            first
+        } else {
+            let first = self.reads.as_slice()[stream] + claim.skip;
+            set(&mut self.reads, stream, first + u64::from(claim.burst));
+            first
+        };
+        self.spans.push(Span {
+            first,
+            count: claim.horizon,
+            offset,
+            stream: claim.stream,
+            frame,
+            write: claim.write,
+        })?;
+        Ok(())
+    }
+
+    /// Puts them behind a layout. After `Memory` the layout may hold anything, and the caller gives the run up.
+    pub(crate) fn join_to(self, layout: &mut Layout) -> Result<(), Memory>
+        requires { FitBehind layout.old self }
+        ensures { OnOk result (layout.new ≡ joined layout.old self) }
+    {
+        let NextSpans {
+            spans,
+            starts,
+            reads,
+            writes,
+        } = self;
+        let first = layout.spans.len() as u32;
+        add_writers(&mut layout.writers, first, spans.as_slice())?;
+        add_copies(&mut layout.spans, spans.as_slice())?;
+        add_copies(&mut layout.starts, starts.as_slice())?;
+        layout.reads = reads;
+        layout.writes = writes;
+        Ok(())
+    }
+}
+
+/// Sets a cursor.
+fn set(cursors: &mut List<u64>, stream: usize, cursor: u64)
+    requires { stream < length cursors.old }
+    ensures { cursors.new ≡ slice_set cursors.old stream cursor }
+{
+    cursors.as_mut_slice()[stream] = cursor;
+}
+
+/// Puts copies of items behind those of a list.
+fn add_copies<T: Copy + Drop>(list: &mut List<T>, items: &[T]) -> Result<(), Memory>
+    ensures { OnOk result (list.new ≡ list.old ++ items.now) }
+{
+    list.reserve(items.len())?;
+    for item in items {
+        list.push(*item)?;
+    }
+    Ok(())
+}
+
+/// Adds spans, which are numbered from a first one on, to the writers of their streams.
+fn add_writers(writers: &mut List<List<u32>>, first: u32, spans: &[Span]) -> Result<(), Memory>
+    requires few { first + length spans.now < 2 ^ 32 }
+    requires exist { All (λ (s : Span). s.stream < length writers.old) spans.now }
+    ensures { OnOk result (writers.new ≡ with_writers writers.old first spans.now) }
+{
+    let mut number = first;
+    for span in spans {
+        add_writer(writers, number, span)?;
+        number += 1;
+    }
+    Ok(())
+}
+
+/// Adds a span of a number to the writers of its stream, if it writes.
+fn add_writer(writers: &mut List<List<u32>>, number: u32, span: &Span) -> Result<(), Memory>
+    requires { span.now.stream < length writers.old }
+    ensures { OnOk result (writers.new ≡ with_writer writers.old number span.now) }
+{
+    if span.write {
+        writers.as_mut_slice()[span.stream as usize].push(number)?;
+    }
+    Ok(())
+}
