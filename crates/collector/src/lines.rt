@@ -1,6 +1,5 @@
-ghost use Rattle.std.specs.Prelude.{◌≡◌, ◌++◌, codes};
+ghost use Rattle.std.specs.Prelude.{◌++◌, codes};
 ghost use Rattle.std.specs.Fmt.{decimal};
-ghost use Rattle.std.specs.Option.{option_map_or};
 ghost use Rattle.collector.specs.Buffering.{GoesOn};
 ghost use Rattle.collector.specs.Line.{line};
 ghost use Rattle.collector.specs.Report.{control_line, end_line, output_line, producer_text, starved_line};

@@ -6,5 +6,5 @@ pub mod Moving
 pub mod Over
 pub mod Step
 pub mod Stretches
-pub mod Joining
+pub mod LaidBehind
 pub mod Listing

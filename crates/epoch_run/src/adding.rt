@@ -1,4 +1,4 @@
-ghost use Rattle.std.specs.Prelude.{◌≡◌, ◌<◌, [], ◌++◌, IfSome, List, OnOk, Some, length, slice_get, slice_set};
+ghost use Rattle.std.specs.Prelude.{◌≡◌, ◌<◌, ◌++◌, IfSome, List, OnOk, Some, length, slice_get, slice_set};
 ghost use Rattle.flow_core_laws.specs.declared.activation.Activation.{Activation};
 ghost use Rattle.stream_match_layouts.specs.Layout.{IsLayoutOf, TakesMore};
 ghost use Rattle.epoch_run.specs.Adding.{no_activation};

@@ -1,4 +1,4 @@
-ghost use Rattle.std.specs.Prelude.{◌≡◌, ◌+◌, ◌<◌, ◌≤◌, ℕ, List, Option, Some, None, IsSome, IfOk, OnOk, length, slice_get, min, true};
+ghost use Rattle.std.specs.Prelude.{◌≡◌, ◌+◌, ◌<◌, ◌≤◌, ℕ, List, Option, Some, None, IsSome, IfOk, OnOk, length, min, true};
 ghost use Rattle.std.specs.Option.{option_map_or};
 ghost use Rattle.flow_core_laws.specs.Round.{gathered};
 ghost use Rattle.flow_core_laws.specs.declared.elem.Elem.{Elem};

@@ -1,4 +1,4 @@
-ghost use Rattle.std.specs.Prelude.{◌≡◌, ◌+◌, ◌<◌, ◌≤◌, ℕ, List, Some, None, IsSome, OnOk, IfOk, length, slice_index, slice_set};
+ghost use Rattle.std.specs.Prelude.{◌≡◌, ◌+◌, ◌<◌, List, Some, None, IsSome, OnOk, IfOk, length, slice_index, slice_set};
 ghost use Rattle.flow_core_laws.specs.Round.{gathered};
 ghost use Rattle.flow_core_laws.specs.declared.elem.Elem.{Elem};
 ghost use Rattle.flow_core_laws.specs.declared.task_end.TaskEnd.{TaskEnd};

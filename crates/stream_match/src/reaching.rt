@@ -1,4 +1,4 @@
-ghost use Rattle.std.specs.Prelude.{◌≡◌, ℕ, ◌+◌, ◌-◌, ◌++◌, [], ◌∷◌, ◌^◌, ◌<◌, All, IfOk, OnOk, true, length, map, sum_by};
+ghost use Rattle.std.specs.Prelude.{◌≡◌, ◌+◌, ◌-◌, ◌++◌, [], ◌∷◌, ◌^◌, ◌<◌, All, IfOk, OnOk, true, length, map, sum_by};
 ghost use Rattle.std.specs.List.{flat_map, range_with_len};
 ghost use Rattle.stream_match_layouts.specs.declared.span.Span.{Span};
 ghost use Rattle.stream_match.specs.declared.stretch.Stretch.{Stretch};

@@ -3,7 +3,6 @@ ghost use Rattle.std.specs.Prelude.{length, map, replicate, slice_index, sum_by}
 ghost use Rattle.std.specs.List.{flat_map};
 ghost use Rattle.stream_match_layouts.specs.Layout.{IsLayout};
 ghost use Rattle.stream_match.specs.declared.stretch.Stretch.{Stretch};
-ghost use Rattle.stream_match.specs.Walking.{IsStretch};
 ghost use Rattle.stream_match.specs.Weave.{Reach, IsWoven};
 ghost use Rattle.stream_match.specs.EpochPlan.{AreFrames, weave_over};
 ghost use Rattle.stream_match.specs.Kept.{kept_of};

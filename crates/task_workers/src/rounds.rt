@@ -1,6 +1,6 @@
-ghost use Rattle.std.specs.Prelude.{◌≡◌, ◌<◌, ◌≤◌, ◌+◌, ◌/◌, max, None, OnOk, IfOk, All, length, sum_by, count_by, is_none, map, drop};
-ghost use Rattle.flow_core_laws.specs.Outcome.{State, ends_of};
-ghost use Rattle.flow_core_laws.specs.Plans.{plan_meaning, sink_elements};
+ghost use Rattle.std.specs.Prelude.{◌≡◌, ◌<◌, ◌≤◌, ◌+◌, ◌/◌, max, OnOk, IfOk, All, length, sum_by, count_by, is_none, drop};
+ghost use Rattle.flow_core_laws.specs.Outcome.{State};
+ghost use Rattle.flow_core_laws.specs.Plans.{plan_meaning};
 ghost use Rattle.flow_core_laws.specs.IsSound.{IsSound};
 ghost use Rattle.flow_core_laws.specs.Serves.{Serves};
 ghost use Rattle.flow_core.specs.Waits.{OpensMore};

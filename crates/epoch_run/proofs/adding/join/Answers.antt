@@ -1,7 +1,7 @@
 use Rattle.std.proofs.Common.{ap, length, subst, sym, ◌∙◌, ◌++◌}
 use Rattle.stream_match_layouts.specs.Layout.{IsLayoutOf}
 use Rattle.stream_match_layouts.specs.declared.layout.Layout.{Layout}
-use Rattle.epoch_run.proofs.Joining.{fits, length-joined}
+use Rattle.epoch_run.proofs.LaidBehind.{fits, length-joined}
 use Rattle.epoch_run.proofs.adding.join.Goals as goal
 
 pub join_to-requires : goal.join_to-requires

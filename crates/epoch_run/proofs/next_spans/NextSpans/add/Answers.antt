@@ -9,7 +9,7 @@ use Rattle.stream_match_layouts.proofs.Windows.{alike, first_windows}
 use Rattle.stream_match_layouts.proofs.Appending.{alike_fits, length-before, before_few, room_at, spans_few, added_claim, alike-more, added_activation}
 use Rattle.epoch_run.specs.NextSpans.{joined}
 use Rattle.epoch_run.specs.declared.next_spans.NextSpans.{NextSpans}
-use Rattle.epoch_run.proofs.Joining.{has_cursors, joined-with_next, length-joined}
+use Rattle.epoch_run.proofs.LaidBehind.{has_cursors, joined-with_next, length-joined}
 use Rattle.epoch_run.proofs.next_spans.NextSpans.add.Goals as goal
 use Rattle.epoch_run.proofs.next_spans.NextSpans.add.Goals.{then-claim+in_ok-take, else-claim+in_ok-take-2}
 

@@ -2,7 +2,7 @@ use Rattle.std.proofs.Common.{◌∙◌, ◌++◌, subst, sym, take}
 use Rattle.stream_match_layouts.specs.Layout.{IsLayoutOf}
 use Rattle.stream_match_layouts.proofs.Appending.{takes_next, take_next}
 use Rattle.epoch_run.specs.NextSpans.{joined}
-use Rattle.epoch_run.proofs.Joining.{length-joined}
+use Rattle.epoch_run.proofs.LaidBehind.{length-joined}
 use Rattle.epoch_run.proofs.next_spans.NextSpans.add_all.Goals as goal
 
 pub add-requires : goal.add-requires

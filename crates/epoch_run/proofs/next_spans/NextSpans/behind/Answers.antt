@@ -1,5 +1,5 @@
 use Rattle.std.proofs.Common.{◌∙◌}
-use Rattle.epoch_run.proofs.Joining.{joined-none}
+use Rattle.epoch_run.proofs.LaidBehind.{joined-none}
 use Rattle.epoch_run.proofs.next_spans.NextSpans.behind.Goals as goal
 
 pub returns : goal.returns
