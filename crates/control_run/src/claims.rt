@@ -1,7 +1,6 @@
 //! The claims that a `Spawn` makes, and what it captures.
 
-ghost use Rattle.std.specs.Prelude.{◌≡◌, ℕ, ◌*◌, ◌<◌, ◌≤◌, All, if◌then◌else◌, length, map, Some, pos, slice_index_or, IfOk};
-ghost use Rattle.c_int.specs.declared.trap.Trap.TheVariants as traps;
+ghost use Rattle.std.specs.Prelude.{◌≡◌, ℕ, ◌*◌, ◌<◌, ◌≤◌, true, false, All, length, map, Some, pos, slice_index_or, IfOk};
 ghost use Rattle.os_code.specs.Machine as machine;
 ghost use Rattle.control_run.specs.Spawning.{HasWindow, with_claim_set, with_claims};
 
@@ -55,16 +54,74 @@ fn set_claim(
     ensures claim { with_claim_set result claim.new ≡ machine.claim_of streams slots.now item index burst }
     ensures positions { IfOk result (λ positions. positions ≡ claim.new.horizon) }
 {
-    match stream_of(streams, forbidden_to(item), item.stream, index) {
+    if item.write {
+        set_output_claim(streams, slots, item, index, burst, claim)
+    } else {
+        set_input_claim(streams, slots, item, index, burst, claim)
+    }
+}
+
+/// The same of an output item: nothing writes the input, and the burst is the horizon.
+#[inline(always)]
+fn set_output_claim(
+    streams: u32,
+    slots: &[i32],
+    item: SiteItem,
+    index: i32,
+    burst: i32,
+    claim: &mut Claim,
+) -> Result<u32, Trap>
+    requires window { HasWindow (length slots.now) item }
+    requires writes { item.write ≡ true }
+    ensures claim { with_claim_set result claim.new ≡ machine.claim_of streams slots.now item index burst }
+    ensures positions { IfOk result (λ positions. positions ≡ claim.new.horizon) }
+{
+    match stream_of(streams, 0, item.stream, index) {
         None => Err(Trap::Index),
         Some(stream) => match horizon_of(slots, item.window) {
             None => Err(Trap::WindowSize),
-            Some(horizon) => match burst_of(item, horizon, burst) {
-                None => Err(burst_trap(item)),
+            Some(horizon) => {
+                if i64::from(burst) != i64::from(horizon) {
+                    return Err(Trap::OutputBurst);
+                }
+                *claim = Claim {
+                    stream,
+                    write: true,
+                    horizon,
+                    burst: horizon,
+                    skip: 0,
+                };
+                Ok(horizon)
+            }
+        },
+    }
+}
+
+/// The same of an input item: nothing reads the output, and the burst is an amount.
+#[inline(always)]
+fn set_input_claim(
+    streams: u32,
+    slots: &[i32],
+    item: SiteItem,
+    index: i32,
+    burst: i32,
+    claim: &mut Claim,
+) -> Result<u32, Trap>
+    requires window { HasWindow (length slots.now) item }
+    requires reads { item.write ≡ false }
+    ensures claim { with_claim_set result claim.new ≡ machine.claim_of streams slots.now item index burst }
+    ensures positions { IfOk result (λ positions. positions ≡ claim.new.horizon) }
+{
+    match stream_of(streams, 1, item.stream, index) {
+        None => Err(Trap::Index),
+        Some(stream) => match horizon_of(slots, item.window) {
+            None => Err(Trap::WindowSize),
+            Some(horizon) => match amount_of(burst) {
+                None => Err(Trap::Move),
                 Some(burst) => {
                     *claim = Claim {
                         stream,
-                        write: item.write,
+                        write: false,
                         horizon,
                         burst,
                         skip: 0,
@@ -76,25 +133,6 @@ fn set_claim(
     }
 }
 
-/// The trap of a burst: that of an output item isn't its horizon, and that of an input item is out of range.
-fn burst_trap(item: SiteItem) -> Trap
-    ensures { result ≡ (if item.write then traps.OutputBurst else traps.Move) }
-{
-    if item.write {
-        Trap::OutputBurst
-    } else {
-        Trap::Move
-    }
-}
-
-/// Nothing writes the input, and nothing reads the output.
-#[inline(always)]
-fn forbidden_to(item: SiteItem) -> u32
-    ensures { result ≡ machine.forbidden_to item }
-{
-    if item.write { 0 } else { 1 }
-}
-
 /// The horizon that a slot keeps, or 1.
 #[inline(always)]
 fn horizon_of(slots: &[i32], window: Option<u32>) -> Option<u32>
@@ -104,21 +142,6 @@ fn horizon_of(slots: &[i32], window: Option<u32>) -> Option<u32>
     match window {
         None => Some(1),
         Some(slot) => size_of(number_at(slots, slot as usize)),
-    }
-}
-
-/// The burst of an input item; that of an output item is its horizon.
-#[inline(always)]
-fn burst_of(item: SiteItem, horizon: u32, burst: i32) -> Option<u32>
-    ensures { result ≡ machine.burst_of item horizon burst }
-{
-    if !item.write {
-        return amount_of(burst);
-    }
-    if i64::from(burst) == i64::from(horizon) {
-        Some(horizon)
-    } else {
-        None
     }
 }
 
