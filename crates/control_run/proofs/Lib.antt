@@ -4,6 +4,8 @@ pub mod Law
 pub mod Keeping
 pub mod Coming
 pub mod Ended
+pub mod Going
+pub mod Branching
 pub mod Making
 pub mod Joining
 pub mod Untaken
@@ -12,5 +14,6 @@ pub mod Ready
 pub mod Prefixes
 pub mod All
 pub mod Within
+pub mod Went
 pub mod Parts
 pub mod AtOnce

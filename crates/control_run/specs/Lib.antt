@@ -4,4 +4,5 @@ pub mod Stretches
 pub mod Spawning
 pub mod Ticking
 pub mod Ending
+pub mod Going
 pub mod Standing

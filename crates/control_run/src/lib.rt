@@ -11,7 +11,8 @@
 //! nothing is kept of the activations but their number and what the limits and ticks need. Activations that are run no more
 //! can be handed back by `reuse`: the next ones are made in their lists.
 //!
-//! The loop stands in `running`; what it shares with the loop of tasks are the pieces of `task_vm::registers`.
+//! The loop stands in `running`, and in `together` what it does in one turn where several instructions mostly stand together; what
+//! it shares with the loop of tasks are the pieces of `task_vm::registers`.
 #![tactic(auto)]
 
 mod claims;
@@ -25,6 +26,7 @@ mod spawning;
 mod stage;
 mod stretches;
 mod ticked;
+mod together;
 
 pub use control::run_control;
 pub use stretches::ControlRun;
