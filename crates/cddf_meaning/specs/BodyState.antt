@@ -19,7 +19,7 @@ pub record BodyState : Type 0 where
   -- the ticks so far, and the claims of the activations so far before they got their skips, the last move first
   pub moves : List Move
 
--- the state of a function's body or a task's, which does nothing to streams but through its items
+-- the state in which a body begins: that of a function or a task does nothing to streams but through its items; `main` begins with two
 abbrev pub state_of : List Binding → List (List ℤ) → BodyState
 state_of bound items = record { bound = bound; items = items; activations = []; streams = 0; moves = [] }
 

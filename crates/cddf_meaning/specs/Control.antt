@@ -30,7 +30,8 @@ control_of (Ended end activations) = record { activations = activations; end = c
 abbrev pub round_main : Main → Around
 round_main m = record { file = m.file; is_control = true; sites = sites_of m.tasks }
 
--- round the body of `main`: `osin`, which is stream 0, `osout`, which is stream 1, and `osin_len`, each of the type `int`
+-- the state in which `main` begins: round its body are `osin`, which is stream 0, `osout`, which is stream 1, and `osin_len`, each of the
+-- type `int`
 abbrev pub control_state : (input_len : ℕ) → BodyState
 control_state input_len = record (state_of (bind osin_len_id false (Scalar (pos input_len)) (bind osout_id false (Stream 1 1)
     (bind osin_id false (Stream 0 1) []))) []) { streams = 2 }

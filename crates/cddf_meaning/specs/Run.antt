@@ -162,7 +162,7 @@ abbrev mutual
   run u (tree.Return m e) s turns = given (value u.file e s turns) s (λ n. Went (Returns n.value) s n.turns)
   run u (tree.Task m cs a) s turns = run_task u.file u.sites (task_number u.sites m) (parts cs) s turns
   run u (tree.Tick m t arrow e) s turns = run_tick u.file t arrow e s turns
-  -- `;` does nothing, and neither does a taskwait: the control program reads no element, so there is nothing to wait for.
+  -- `;` and a taskwait do nothing: the control program reads no element, so there is nothing to wait for.
   run u _ s turns = goes_on s turns
 
   -- the statements and declarations of a block, one after another, until one leaves it

@@ -1,5 +1,5 @@
 -- The value of an expression, by its 32 bits: as the `int` that has them. C11, 6.5; operands and arguments are evaluated from left
--- to right. Its type is that of `Types`, and `TypedValue` has both in one, by the operators between values with types.
+-- to right. Its type is that of `ExpressionTypes`, and `TypedValue` has both in one, by the operators between values with types.
 use Rattle.std.specs.Prelude.{ℕ, Bool, not, if◌then◌else◌, ltb, List, [], ◌∷◌, length, get_or, Option, Some, ℤ, pos, Ok}
 use Rattle.std.specs.Int.{w32, cast_signed}
 use Rattle.c_int.specs.Operators.{is_zero, truth}

@@ -13,7 +13,7 @@ use Rattle.flow_core_laws.specs.declared.claim.Claim.{Claim}
 use Rattle.os_ast.specs.Meanings.{meaning_in, resolved}
 use Rattle.os_ast.specs.Names.{Scope, lookup, entity_of, flag_of, typed}
 use Rattle.os_ast.specs.Notes.Kinds.{Note, Used}
-use Rattle.os_ast.specs.Rules.{UseRule, rules, violates, if_declared, is_wrong_kind, has_other_count}
+use Rattle.os_ast.specs.Rules.{UseRule, violates, if_declared, is_wrong_kind, has_other_count}
 use Rattle.os_ast.specs.Violations.{resolutions_of}
 use Rattle.os_ast.specs.declared.expr.Name.{Name}
 use Rattle.os_ast.specs.declared.names.Entity.{Entity}
@@ -35,7 +35,7 @@ use Rattle.lowering_relation.specs.Names.{told_at, flags_by}
 use Rattle.lowering_relation.proofs.Alignment.{Found, flag_or_of, found, missed, flag_found}
 use Rattle.lowering_relation.proofs.Steps.{Store, at, pushed, onto, Meets}
 use Rattle.window_check_laws.specs.Order.{IsBelowNext, InOrder}
-use Rattle.window_check_laws.specs.Told.{AreIn, KeepsAll}
+use Rattle.window_check_laws.specs.Told.{AreIn, KeepsAll, rules}
 use Rattle.window_check_laws.proofs.Told.{told-use, declared-use}
 
 -- the list tells at a place what it has for that place

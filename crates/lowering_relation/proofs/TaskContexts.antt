@@ -14,7 +14,7 @@ use Rattle.os_ast.specs.Notes.Clauses.{item_entity, with_items, in_task, capture
 use Rattle.os_ast.specs.Notes.Kinds.{Note, Used, Sized, Declared, Given, Global, Left, Returned, Pragma, Task, Listed}
 use Rattle.os_ast.specs.Notes.Statements.{stmt_notes}
 use Rattle.os_ast.specs.ClauseParts.{ClausePart, Item, Private, parts, item_name, is_in, private_ids}
-use Rattle.os_ast.specs.Rules.{rules, is_changed, is_misplaced_stream, is_misplaced_window}
+use Rattle.os_ast.specs.Rules.{is_changed, is_misplaced_stream, is_misplaced_window}
 use Rattle.os_ast.specs.Stacked.{main_extent}
 use Rattle.os_ast.specs.Stacked as text
 use Rattle.os_ast.specs.declared.expr.Name.{Name}
@@ -37,7 +37,7 @@ use Rattle.window_check_laws.specs.CapturedByUse.{used_slots, slots_named}
 use Rattle.window_check_laws.specs.Order.{InOrder}
 use Rattle.window_check_laws.specs.Slots.{control_slots, named_slots}
 use Rattle.window_check_laws.specs.Sums.{extent_in}
-use Rattle.window_check_laws.specs.Told.{KeepsAll, Tells, AreLawful}
+use Rattle.window_check_laws.specs.Told.{KeepsAll, Tells, AreLawful, rules}
 use Rattle.window_check_laws.proofs.Named.{captured-members}
 
 -- the declarations of items, as they stand within others

@@ -13,7 +13,7 @@ use Rattle.os_ast.specs.Notes.Expressions.{count_args, expr_notes, place_notes, 
 use Rattle.os_ast.specs.Notes.Kinds.{Note, Used, Declared, Pragma, Task}
 use Rattle.os_ast.specs.Notes.Statements.{after_stmt, after_stmts, stmt_notes, stmts_notes}
 use Rattle.os_ast.specs.ClauseParts.{parts, count_items}
-use Rattle.os_ast.specs.Rules.{rules, is_outermost, is_main_body, has_no_size, has_too_many}
+use Rattle.os_ast.specs.Rules.{is_outermost, is_main_body, has_no_size, has_too_many}
 use Rattle.os_ast.specs.Trees as tree
 use Rattle.os_ast.specs.declared.names.Direction.TheVariants as direction
 use Rattle.os_ast.specs.declared.names.Entity.{Entity}
@@ -30,7 +30,7 @@ use Rattle.lowering_relation.proofs.Static.{declarator_entries, declarator_onwar
 use Rattle.lowering_relation.proofs.TextNotes.{expr_scoped, place_scoped, args_scoped, value_scoped, change_scoped, step_scoped, sized_scoped, parts_scoped}
 use Rattle.lowering_relation.proofs.Texts.{or_none_first, may_found, Text, OfMainAlone, May, AllMay, In, Known, known_first, known_rest, scoped_both, all_fit}
 use Rattle.window_check_laws.proofs.Summed.{stays_in}
-use Rattle.window_check_laws.specs.Told.{KeepsAll}
+use Rattle.window_check_laws.specs.Told.{KeepsAll, rules}
 
 pub fit_both : (h : Home) (xs ys : List Note) → AllFit h xs → AllFit h ys → AllFit h (xs ++ ys)
 fit_both h [] ys a b = b

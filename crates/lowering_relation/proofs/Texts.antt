@@ -10,7 +10,7 @@ use Rattle.os_ast.specs.Names.{Scope, lookup, entity_of, main_id, flag_of}
 use Rattle.os_ast.specs.Notes.Declarators.{declared_entity, form_with, form_entity, scalar_entity, sized_form, taken, after_declarator, size_of}
 use Rattle.os_ast.specs.Notes.Kinds.{Note, Used, Sized, Declared, Given, Global, Left, Returned, Pragma, Task, Listed}
 use Rattle.os_ast.specs.ClauseParts.{is_in}
-use Rattle.os_ast.specs.Rules.{UseRule, rules, violates, if_declared, is_wrong_kind, has_other_count, is_changed, is_main_body, is_misplaced_window, is_a_window, is_fixed}
+use Rattle.os_ast.specs.Rules.{UseRule, violates, if_declared, is_wrong_kind, has_other_count, is_changed, is_main_body, is_misplaced_window, is_a_window, is_fixed}
 use Rattle.os_ast.specs.Trees as tree
 use Rattle.os_ast.specs.Violations.{resolutions_of}
 use Rattle.os_ast.specs.declared.expr.Name.{Name}
@@ -38,7 +38,7 @@ use Rattle.lowering_relation.proofs.Names.{means_function}
 use Rattle.lowering_relation.proofs.TaskContexts.{in_slots}
 use Rattle.window_check_laws.specs.Order.{InOrder}
 use Rattle.window_check_laws.specs.Slots.{control_slots}
-use Rattle.window_check_laws.specs.Told.{AreIn, AreLawful, KeepsAll, Tells}
+use Rattle.window_check_laws.specs.Told.{AreIn, AreLawful, KeepsAll, Tells, rules}
 use Rattle.window_check_laws.proofs.Told.{told-use, declared-use}
 
 -- a body in its unit, the names of its program, and what it captures

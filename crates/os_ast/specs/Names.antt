@@ -32,7 +32,7 @@ pub record Scope : Type 0 where
   -- whether the last declaration is of the type `unsigned`
   pub unsigned : Bool
 
--- the body of `main`
+-- whether it is the body of `main`
 abbrev pub is_main_body : Owner → Bool
 is_main_body owner.OfMain = true
 is_main_body _ = false

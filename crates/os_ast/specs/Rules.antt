@@ -1,6 +1,6 @@
--- The rules, one after another by their codes, over what stands at a token. A token violates a rule where its test is
--- true. 23 is a rule for the whole program, and stands with the violations.
-use Rattle.std.specs.Prelude.{ℕ, ◌==◌, ◌&&◌, ◌||◌, Bool, true, false, not, if◌then◌else◌, ltb, List, [], ◌∷◌, map, length, Option, is_none, ℤ}
+-- The rules over what stands at a token: what they speak of first, then the table of them by their codes. 23 is a rule for the whole
+-- program, and stands with the violations.
+use Rattle.std.specs.Prelude.{ℕ, ◌==◌, ◌&&◌, ◌||◌, Bool, true, false, not, if◌then◌else◌, ltb, List, [], ◌∷◌, length, Option, is_none, ℤ}
 use Rattle.std.specs.List.{flat_map}
 use Rattle.std.specs.Option.{option_map_or}
 use Rattle.os_ast.specs.Limits.{is_size, elements_limit, arrays_limit, streams_limit, items_limit, captured_limit}
@@ -158,13 +158,13 @@ is_misplaced_window id u e = is_a_window e
 abbrev pub is_violated_by : Rule → Note → Bool
 -- 10: a name that is used has no declaration in scope
 is_violated_by rule.Unknown (Used s n u) = is_none (entity_of (lookup s.entries n.id))
--- 11
+-- 11: a name of the wrong kind
 is_violated_by rule.WrongKind note = violates is_wrong_kind note
 -- 12: a name is declared a second time in one scope
 is_violated_by rule.DeclaredTwice (Declared s d) = is_declared s d.name.id
 is_violated_by rule.DeclaredTwice (Given s p) = is_declared s p.name.id
 is_violated_by rule.DeclaredTwice (Global s n) = is_declared s n.id
--- 13 and 14
+-- 13: a call has another number of arguments; 14: a change of what may not be changed
 is_violated_by rule.ArgumentCount note = violates has_other_count note
 is_violated_by rule.FixedChanged note = violates is_changed note
 -- 15: the size is wrong, or with this declarator a limit is passed
@@ -177,15 +177,16 @@ is_violated_by rule.Misplaced (Task s m items captured) = not (is_main_body s.ow
 is_violated_by rule.Misplaced (Declared s d) = d.stream && not (is_outermost s.owner s.depth)
 -- 18: `return` in a task
 is_violated_by rule.ReturnInTask (Returned s m) = is_task_body s.owner
--- 19 and 20
+-- 19: a stream is named elsewhere; 20: `osin` is written, or `osout` read
 is_violated_by rule.MisplacedStream note = violates is_misplaced_stream note
 is_violated_by rule.WrongEnd note = violates is_wrong_end note
 -- 21: a name stands a second time in the clauses of a task
 is_violated_by rule.ListedTwice (Listed before n) = is_in n.id before
 -- 22: a task has too many items, or captures too many scalars
 is_violated_by rule.TaskLimit (Task s m items captured) = takes_more items (length captured)
--- 24
+-- 24: a window is named elsewhere
 is_violated_by rule.MisplacedWindow note = violates is_misplaced_window note
+-- no other token violates a rule
 is_violated_by _ _ = false
 
 -- the rule, where it is violated
@@ -202,17 +203,3 @@ note_rules =
 -- the rules that what stands at a token violates
 abbrev pub broken : Note → List Rule
 broken n = flat_map (λ r. when (is_violated_by r n) r) note_rules
-
--- The same, rule by rule, as proofs take it apart: a rule with its test, all of them, and those that are violated among some.
-pub record RuleTest : Type 0 where
-  pub rule : Rule
-  pub is_violated : Note → Bool
-
-abbrev test : Rule → (Note → Bool) → RuleTest
-test r is_violated = record { rule = r; is_violated = is_violated }
-
-abbrev pub rules : List RuleTest
-rules = map (λ r. test r (is_violated_by r)) note_rules
-
-abbrev pub broken_among : List RuleTest → Note → List Rule
-broken_among ts n = flat_map (λ (t : RuleTest). when (t.is_violated n) t.rule) ts

@@ -15,7 +15,7 @@ use Rattle.os_ast.specs.Notes.Kinds.{Note, Used, Task}
 use Rattle.os_ast.specs.Notes.Programs.{params_notes, after_param, param_list, item_notes, items_notes, after_item, in_function, in_body, program_notes, file}
 use Rattle.os_ast.specs.Notes.Statements.{stmt_notes, stmts_notes, after_stmt}
 use Rattle.os_ast.specs.ClauseParts.{ClausePart, Item, Private, parts, parts_of, part_name, count_items}
-use Rattle.os_ast.specs.Rules.{rules, has_no_size, has_too_many}
+use Rattle.os_ast.specs.Rules.{has_no_size, has_too_many}
 use Rattle.os_ast.specs.Spelling as spelling
 use Rattle.os_ast.specs.Spelling.{Symbol, ◌⨾◌}
 use Rattle.os_ast.specs.Trees as tree
@@ -40,7 +40,7 @@ use Rattle.os_lexer.specs.declared.token.Punct.{Punct}
 use Rattle.os_lexer.specs.declared.token.Punct.TheVariants as puncts
 use Rattle.window_check_laws.proofs.Told.{lawful-first, lawful-rest}
 use Rattle.window_check_laws.specs.NameTokens.{name_places, item_places, program_places}
-use Rattle.window_check_laws.specs.Told.{KeepsAll, AreLawful}
+use Rattle.window_check_laws.specs.Told.{KeepsAll, AreLawful, rules}
 
 -- the places of the names among notes
 abbrev told : List Note → List ℕ

@@ -5,7 +5,7 @@ use Rattle.os_ast.specs.Meanings.{meaning_in, resolved}
 use Rattle.os_ast.specs.Names.{Scope, lookup, entity_of, flag_of}
 use Rattle.os_ast.specs.Notes.Kinds.{Note, Used, mark_of}
 use Rattle.os_ast.specs.Notes.Programs.{program_notes}
-use Rattle.os_ast.specs.Rules.{RuleTest, rules, broken, broken_among, when}
+use Rattle.os_ast.specs.Rules.{broken, when}
 use Rattle.os_ast.specs.Trees.{ProgramTree}
 use Rattle.os_ast.specs.Violations.{violations, no_main, violations_at, violations_of, names, resolutions_of, resolutions, declared_meaning}
 use Rattle.os_ast.specs.declared.expr.Mark.{Mark}
@@ -15,7 +15,7 @@ use Rattle.os_ast.specs.declared.names.Resolved.{Resolved}
 use Rattle.os_ast.specs.declared.names.Use.{Use}
 use Rattle.os_ast.specs.declared.names.What.{What}
 use Rattle.window_check_laws.specs.Order.{InOrder, IsBelowNext}
-use Rattle.window_check_laws.specs.Told.{AreIn, Tells, KeepsAll, AreLawful}
+use Rattle.window_check_laws.specs.Told.{AreIn, Tells, KeepsAll, AreLawful, RuleTest, rules, broken_among}
 use Rattle.os_ast.specs.declared.rule.Rule.{Rule}
 
 contains-head : (r : Resolved) (rs : List Resolved) → Contains (r ∷ rs) r
