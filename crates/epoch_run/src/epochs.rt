@@ -82,7 +82,7 @@ pub fn run_epochs_of<R: Threads + Sync, G: Gate>(
     keep_room_in_place(alloc, workers);
     let mut run = Standing::new(alloc, code, input, budgets)?;
     let end = 'epochs: loop {
-        let next = size.with_waiting(run.held.without_end.len());
+        let next = run.next_size(size, workers);
         let end = run.go_on(rt, alloc, code, input, budgets, workers, gate, next)?;
         if let Some(end) = end {
             break 'epochs end;

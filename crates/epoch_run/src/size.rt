@@ -16,6 +16,9 @@ const SHARES: u32 = 4;
 /// How many activations are created before their elements are counted: so an epoch has one for each of 64 workers.
 const STRETCH: u32 = 64;
 
+/// How many activations the first epoch has at most where several workers run it.
+const FIRST: u32 = 256;
+
 /// How much of what is new an epoch has at most. It has at least one new activation.
 #[derive(Clone, Copy, Debug, PartialEq, Eq)]
 pub struct EpochSize {
@@ -42,6 +45,21 @@ impl EpochSize {
             elements: elements_for(shares),
             stretch: STRETCH,
             growth: SHARES / shares,
+        }
+    }
+
+    /// The size of the first epoch. By several workers it is small, since nothing tells yet how long bodies are, and so how they are to
+    /// be run.
+    pub(crate) fn first(self, workers: u32) -> EpochSize
+        requires { 1 ≤ self.activations }
+        ensures { 1 ≤ result.activations }
+    {
+        if workers == 1 {
+            return self;
+        }
+        EpochSize {
+            activations: self.activations.min(FIRST),
+            ..self
         }
     }
 

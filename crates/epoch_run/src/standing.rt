@@ -72,6 +72,18 @@ impl<'c> Standing<'c> {
         })
     }
 
+    /// The size of the next epoch, by that of an epoch for which few activations wait: the first one is small by several workers.
+    pub(crate) fn next_size(&self, size: EpochSize, workers: u32) -> EpochSize
+        requires { 1 ≤ size.activations }
+        ensures { 1 ≤ result.activations }
+    {
+        if self.layout.starts.len() <= 1 {
+            size.first(workers)
+        } else {
+            size.with_waiting(self.held.without_end.len())
+        }
+    }
+
     /// Runs an epoch, and has the control program create the new activations of the next one. It answers how the control
     /// program has ended, once it has. After `Memory` the run is to be given up.
     pub(crate) fn go_on<R: Threads + Sync, G: Gate>(
