@@ -31,12 +31,12 @@ abbrev pub flows : Runs → Ran → Ran
 flows next (Went GoesOn s turns) = next s turns
 flows next ran = ran
 
--- Behind the body of a loop: `continue` goes on with it, and `break` leaves it; all else is as behind any statement. C11, 6.8.6.2 and
--- 6.8.6.3.
+-- Behind the body of a loop: `continue` goes on with it, and `break` leaves it. C11, 6.8.6.2 and 6.8.6.3.
 abbrev pub loops : Runs → Ran → Ran
+loops next (Went GoesOn s turns) = next s turns
 loops next (Went Breaks s turns) = Went GoesOn s turns
 loops next (Went Continues s turns) = next s turns
-loops next ran = flows next ran
+loops next ran = ran
 
 abbrev pub left_state : BodyState → BodyState → BodyState
 left_state outer inner = record inner { bound = leave outer.bound inner.bound }
