@@ -138,11 +138,13 @@ run_start u (tree.StartTree.Change c) s turns = run_change u.file c s turns
 
 -- Without a test a loop goes on.
 abbrev pub run_test : File → Option tree.ExprTree → BodyState → ℕ → Answer (Left ℤ)
-run_test file test s turns = option_map_or (λ e. value file e s turns) test (Ok (left (pos 1) turns))
+run_test file None s turns = Ok (left (pos 1) turns)
+run_test file (Some e) s turns = value file e s turns
 
 -- what stands behind the second `;` of a `for`
 abbrev pub run_step : File → Option tree.ChangeTree → Runs
-run_step file step s turns = option_map_or (λ c. run_change file c s turns) step (goes_on s turns)
+run_step file None s turns = goes_on s turns
+run_step file (Some c) s turns = run_change file c s turns
 
 -- A statement. `if`, blocks, loops, jumps: C11, 6.8.2 to 6.8.6. A tick or a task stands in the control program alone.
 abbrev mutual
