@@ -21,8 +21,9 @@ returns g c =
     let meant = c.in_ok-layout.ensures.ends in
     let state = stream_meaning made.activations input (frame_outcome code made.activations c.args.terms.task_budget) in
     let count = ap length c.in_ok-output.ensures.written ∙ ap (λ (e : Ends). length (written e.output)) meant in
+    let run = c.in_ok-layout.field-0 in
     record {
-      run = subst (λ bytes. IsRunOfCode c.args.terms.task_budget c.args.terms.control_budget code bytes _ _ _ _) c.deref.ensures.value (record {
+      run = subst (λ bytes. IsRunOfCode c.args.terms.task_budget c.args.terms.control_budget code bytes c.in_ok-output.output.items run.layout run.ends run.control) c.deref.ensures.value (record {
         made = made;
         made_is = refl;
         end_is = c.in_ok-layout.ensures.control;
