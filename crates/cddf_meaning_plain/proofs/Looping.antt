@@ -36,6 +36,20 @@ loop-kept (suc m) turns t t1 t2 t3 test body step s s2 s3 n flow all h z inv et 
           ∙ ap (loop (suc m) test body step s) same ∙ inv,
     )
 
+-- a loop ends where its body leaves it
+pub loop-left : (most turns t t1 t2 : ℕ) (test : BodyState → ℕ → Answer (Left ℤ)) (body step : Runs) (s s2 : BodyState) (n : ℤ) (flow gone : Flow)
+    (all : Ran) → turns ≤ most → turns ≡ t + 1 → loop most test body step s turns ≡ all → test s t ≡ Ok (left n t1) → is_zero n ≡ false →
+    body s t1 ≡ Went flow s2 t2 → ((next : Runs) (s : BodyState) (turns : ℕ) → loops next (Went flow s turns) ≡ Went gone s turns) →
+    all ≡ Went gone s2 t2
+loop-left zero turns t t1 t2 test body step s s2 n flow gone all h z inv et ez eb leaves = absurd (nothing-left t turns h z)
+loop-left (suc m) turns t t1 t2 test body step s s2 n flow gone all h z inv et ez eb leaves =
+    let same : turns ≡ suc t = omega (arith, z) in
+    let next : Runs = λ s turns. flows (loop m test body step) (step s turns) in
+    sym inv ∙ ap (loop (suc m) test body step s) same
+    ∙ ap (λ a. given a s (λ n. if is_zero n.value then goes_on s n.turns else loops next (body s n.turns))) et
+    ∙ ap (λ (z : Bool). if z then goes_on s t1 else loops next (body s t1)) ez
+    ∙ ap (loops next) eb ∙ leaves next s2 t2
+
 zero-not : (z : Bool) → not z ≡ true → z ≡ false
 zero-not true h = cc
 zero-not false h = refl

@@ -21,7 +21,7 @@ use Rattle.cddf_meaning_plain.specs.Weights.{args_weight, clause_weight, declara
 use Rattle.os_ast.specs.Views.{args_tree, change_tree, clause_item_tree, clause_kind_tree, clause_tree, declarator_tree, expr_tree, item_tree, links_tree, stmt_tree, stmts_tree}
 use Rattle.cddf_meaning_plain.proofs.Claiming.{clause-goes, clause-stops, privates-claim}
 use Rattle.cddf_meaning_plain.proofs.Lighter.{arg-lighter, function-lighter, link-lighter, part-lighter, stmt-lighter}
-use Rattle.cddf_meaning_plain.proofs.Looping.{loop-kept, not-zero}
+use Rattle.cddf_meaning_plain.proofs.Looping.{loop-kept, loop-left, not-zero}
 use Rattle.cddf_meaning_plain.proofs.Called.{call-one, call-zero, calls-none, calls-some}
 use Rattle.cddf_meaning_plain.proofs.Stopping.{stops-as, stops-over, stops-returned, stops-then, then-gives}
 use Rattle.cddf_meaning_plain.proofs.+meaning.Goals as goal
@@ -232,6 +232,17 @@ run::repeat-loop-alloc-preserved t c =
         c.in_ok-take_unit.ensures.fewer,
       ),
     )
+
+pub run::repeat-returns-in-Err-clause-leaves : goal.run::repeat-returns-in-Err-clause-leaves
+run::repeat-returns-in-Err-clause-leaves t c =
+    let u = around_of c.args.around.now in
+    let test = c.in_ok-tested.ensures.gives in
+    let nonzero = not-zero test.0 c.in_ok-tested.field-0 test.2 c.if-not-branch.false in
+    loop-left c.loop-alloc.invariant.0 c.loop-alloc.turns c.take_unit.new.turns c.tested.new.turns c.stmt.new.turns
+    (run_test u.file (option_map expr_tree (option_copied c.args.test))) (run u (stmt_tree c.args.body.now))
+    (run_step u.file (option_map change_tree (option_copied c.args.step))) c.loop-alloc.state c.stmt.new.state
+    test.0 c.in_ok-flow.flow c.in-Err.left _ c.loop-alloc.invariant.1 c.in_ok-take_unit.ensures.taken c.loop-alloc.invariant.2 test.1 nonzero
+    c.in_ok-flow.ensures.leaves c.in-Err.ensures.leaves
 
 pub functions::call_function-returns-in-None-clause-gives : goal.functions::call_function-returns-in-None-clause-gives
 functions::call_function-returns-in-None-clause-gives t c =
