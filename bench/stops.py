@@ -2,8 +2,9 @@
 """bench/stops.py [each] [RUN ..]: what an activation takes, by stop, as a table: machine instructions and microseconds, of whole runs of
 the command by one worker. Runs of 65,536 activations and of half as many are made, and the difference is told for each activation, so that
 what a process takes once is left out. Instructions are those that valgrind's callgrind counts, by the crate of the function that they
-stand in: what the compiler put into a function of another crate counts there. Microseconds are of the quickest of 15 runs. With the word
-`each` the functions are told that take most, and nothing else.
+stand in: what the compiler put into a function of another crate counts there. Copies and fills of memory stand by themselves: of a long one
+each byte counts as an instruction. Microseconds are of the quickest of 15 runs. With the word `each` the functions are told that take
+most, and nothing else.
 
     overlap     each reads three elements of the input, of which the next one reads two, and writes one
     pipeline    pairs of activations: one reads two elements of the input and writes two, the other reads these and writes two
@@ -85,6 +86,7 @@ STOPS = {
     "delivery": ["flow_core::", "task_workers::", "task_workers_round::", "flow_core_laws::"],
     "carrying": ["epoch_run::", "epoch_run_carrying::"],
     "bodies": ["task_vm::", "epoch_run_bodies::"],
+    "copies": ["__mem"],
 }
 
 
