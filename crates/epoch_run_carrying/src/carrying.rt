@@ -140,8 +140,8 @@ fn passed_over(cursors: &[u64], leaving: Stretch) -> u32
     before.min(u64::from(leaving.count)) as u32
 }
 
-/// Adds the elements at positions of a stream from a first one on, those that are there.
-fn add_elements(
+/// Adds the elements at positions of a stream from a first one on, those that are there. After `Memory` some of them may be missing.
+pub fn add_elements(
     carried: &mut Vec<Kept>,
     stream: u32,
     first: u64,

@@ -1,0 +1,12 @@
+pub mod HeldStreams
+pub mod KeptPlaces
+pub mod StreamsBehind
+mod Stretches
+mod Through
+mod Reading
+mod Held
+mod NextReads
+mod NextWrites
+mod Next
+mod Last
+mod GivenUp

@@ -1,0 +1,24 @@
+-- What an activation reads.
+use Rattle.std.specs.Prelude.{◌≡◌, ℕ, not, List, Option, Some, map, filter}
+use Rattle.std.specs.List.{range_with_len, flat_map}
+use Rattle.flow_core_laws.specs.Poisoning.{least_root, values_of}
+use Rattle.flow_core_laws.specs.Round.{gathered}
+use Rattle.flow_core_laws.specs.declared.elem.Elem.{Elem}
+use Rattle.stream_match_layouts.specs.declared.span.Span.{Span}
+use Rattle.epoch_run_in_order.specs.Streams.{held_at}
+use Rattle.epoch_run_in_order.specs.declared.inputs.Inputs.{Inputs}
+use Rattle.epoch_run_in_order.specs.declared.streams.Streams.{Streams}
+
+-- the elements that a span covers, and those that spans read
+abbrev pub covered : Streams → List ℕ → Span → List (Option Elem)
+covered streams input span = map (held_at streams input span.stream) (range_with_len span.first span.count)
+
+abbrev pub covered_by : Streams → List ℕ → List Span → List (Option Elem)
+covered_by streams input spans = flat_map (covered streams input) (filter (λ (s : Span). not s.write) spans)
+
+-- elements that all are there were read: their values, and the least root among them
+pub record AreRead (cells : List (Option Elem)) (inputs : Inputs) : Type 0 where
+  pub elements : List Elem
+  pub are_there : gathered cells ≡ Some elements
+  pub root_is : inputs.root ≡ least_root elements
+  pub values_are : inputs.values.items ≡ values_of elements

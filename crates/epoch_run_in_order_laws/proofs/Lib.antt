@@ -1,0 +1,4 @@
+pub mod OneMore
+pub mod Growing
+pub mod Held
+pub mod Resuming
