@@ -5,6 +5,7 @@ pub mod Keeping
 pub mod Coming
 pub mod Ended
 pub mod Going
+pub mod Turning
 pub mod Branching
 pub mod Making
 pub mod Joining
