@@ -13,7 +13,7 @@ use std::alloc::Global;
 /// Creates the activation of a site, in the lists of a spare one where one fits, and adds it to the list; or answers how
 /// `main` ends there. The slots are those of `main`; the operands are an index and a burst for each item. `Memory` leaves
 /// the list as it was, and may lose what ticks took.
-#[inline(never)]
+#[inline(always)]
 pub(crate) fn spawn(
     alloc: Global,
     streams: u32,
