@@ -1,3 +1,5 @@
+ghost use Rattle.std.specs.Prelude.{◌≡◌};
+
 use crate::made::Made;
 use crate::running::{Stopped, run};
 use crate::spare::Spare;
@@ -80,6 +82,7 @@ impl Machine {
         ensures at_most { self.new.made.created ≤ self.old.made.created + at_most }
         ensures stops { IfOk result (StopsAs (parts_of code.now) input_len budget (self.old.made.created + at_most) (contents self.new)) }
     {
+        make_room(into, spare)?;
         run(
             alloc,
             code,
@@ -95,4 +98,15 @@ impl Machine {
             budget,
         )
     }
+}
+
+/// Takes memory for as many activations as were handed back, where none of them was taken and the list has none: mostly as many
+/// are added to it.
+fn make_room(into: &mut List<Activation>, spare: &Spare) -> Result<(), Memory>
+    ensures { into.new ≡ into.old }
+{
+    if into.len() == 0 && spare.taken == 0 {
+        into.reserve(spare.activations.len())?;
+    }
+    Ok(())
 }
