@@ -39,8 +39,9 @@ pub(crate) fn is_equal(number: i32, other: i32) -> bool
 pub(crate) fn stream_of(streams: u32, forbidden: u32, first: u32, index: i32) -> Option<u32>
     ensures { result ≡ machine.stream_of streams forbidden first index }
 {
-    let stream = i64::from(first) + i64::from(index);
-    if stream >= 0 && stream < i64::from(streams) && stream != i64::from(forbidden) {
+    // One below 0 is, as an unsigned number, more than all streams.
+    let stream = (i64::from(first) + i64::from(index)).cast_unsigned();
+    if stream < u64::from(streams) && stream != u64::from(forbidden) {
         Some(stream as u32)
     } else {
         None
