@@ -2,6 +2,7 @@ pub mod AtOnce
 pub mod Both
 pub mod Frames
 pub mod Going
+pub mod InOrder
 pub mod Moving
 pub mod Over
 pub mod Step

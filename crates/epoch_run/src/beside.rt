@@ -125,7 +125,7 @@ fn stretch_of(size: EpochSize, left: u32) -> u32
 }
 
 /// Has the control program create the next activations, so many or all that remain. It answers whether fewer remained.
-fn create(
+pub(crate) fn create(
     control: &mut ControlRun<'_>,
     next: &mut List<Activation>,
     count: u32,

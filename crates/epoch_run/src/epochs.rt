@@ -12,6 +12,7 @@ use crate::result::{Budgets, RunResult};
 use crate::room::keep_room_in_place;
 use crate::size::EpochSize;
 use crate::standing::Standing;
+use crate::way::Way;
 use os_code::Code;
 use os_io::Memory;
 use std::alloc::Global;
@@ -22,8 +23,12 @@ use task_workers::Gate;
 /// workers few: while 1 to 64 workers run one epoch, the control program creates the activations of the next one. What it comes
 /// to is the data-flow meaning of all activations that it creates.
 ///
-/// The gate is called as in `execute`, with the number of a frame in its epoch. The activations, their positions, their
-/// ends and the output are held of the whole run, a plan and its cells of one epoch at a time.
+/// Where nobody waits and bodies are short, the activations run in control order instead: one after the other, without a plan, until one of
+/// them doesn't find there what it reads.
+///
+/// The gate is called as in `execute`, with the number of a frame in its epoch, and in control order with worker 0 and the number of an
+/// activation in its stretch. The activations, their positions, their ends and the output are held of the whole run, a plan and its cells
+/// of one epoch at a time.
 pub fn run_epochs<R: Threads + Sync, G: Gate>(
     rt: &R,
     alloc: Global,
@@ -49,10 +54,20 @@ pub fn run_epochs<R: Threads + Sync, G: Gate>(
     ensures lawful { IfOk result (λ run. AreLawful code.now.streams (created (parts_of code.now) input.now budgets)) }
 {
     let size = EpochSize::by_workers(workers);
-    run_epochs_of(rt, alloc, code, input, budgets, workers, gate, size)
+    run_by(
+        rt,
+        alloc,
+        code,
+        input,
+        budgets,
+        workers,
+        gate,
+        size,
+        Way::InOrder,
+    )
 }
 
-/// Runs a code over an input in epochs of this size, as `run_epochs` does.
+/// Runs a code over an input in epochs of this size, as `run_epochs` does, and never in control order.
 pub fn run_epochs_of<R: Threads + Sync, G: Gate>(
     rt: &R,
     alloc: Global,
@@ -79,11 +94,52 @@ pub fn run_epochs_of<R: Threads + Sync, G: Gate>(
     ensures fit { IfOk result (λ run. All (Fits (parts_of code.now)) (created (parts_of code.now) input.now budgets)) }
     ensures lawful { IfOk result (λ run. AreLawful code.now.streams (created (parts_of code.now) input.now budgets)) }
 {
+    run_by(
+        rt,
+        alloc,
+        code,
+        input,
+        budgets,
+        workers,
+        gate,
+        size,
+        Way::InEpochs,
+    )
+}
+
+/// Runs a code over an input in epochs of this size, and in control order where it may.
+fn run_by<R: Threads + Sync, G: Gate>(
+    rt: &R,
+    alloc: Global,
+    code: &Code,
+    input: &[u8],
+    budgets: Budgets,
+    workers: u32,
+    gate: &G,
+    size: EpochSize,
+    way: Way,
+) -> Result<RunResult, Memory>
+    requires workers { (1 ≤ workers) × (workers ≤ 64) }
+    requires input { length input.now ≤ 4194304 }
+    requires budgets { AreBudgets budgets }
+    requires some { 1 ≤ size.activations }
+    // the layout of all activations that `main` creates, and how it ended
+    ensures layout { IfOk result (λ run. IsLayoutOf run.layout (created (parts_of code.now) input.now budgets)) }
+    ensures whole { IfOk result (λ run. IsLayout run.layout) }
+    ensures input { IfOk result (λ run. run.layout.input_len ≡ length input.now) }
+    ensures control { IfOk result (λ run. run.control ≡ (control (parts_of code.now) (length input.now) budgets.control).end) }
+    // how they end, and the elements of the output
+    ensures ends { IfOk result (λ run. run.ends
+        ≡ code_ends (parts_of code.now) (created (parts_of code.now) input.now budgets) input.now budgets.task) }
+    // each of them fits the code, and they are what a layout takes
+    ensures fit { IfOk result (λ run. All (Fits (parts_of code.now)) (created (parts_of code.now) input.now budgets)) }
+    ensures lawful { IfOk result (λ run. AreLawful code.now.streams (created (parts_of code.now) input.now budgets)) }
+{
     keep_room_in_place(alloc, workers);
     let mut run = Standing::new(alloc, code, input, budgets)?;
     let end = 'epochs: loop {
         let next = run.next_size(size, workers);
-        let end = run.go_on(rt, alloc, code, input, budgets, workers, gate, next)?;
+        let end = run.go_on(rt, alloc, code, input, budgets, workers, gate, next, way)?;
         if let Some(end) = end {
             break 'epochs end;
         }

@@ -10,6 +10,9 @@
 //! earlier epochs that can run by now; what still waits is left out (`epoch_run_ready`), and costs a look in each epoch. So the
 //! plan and the cells of one epoch alone are held at once. Where all activations come in the first epoch, they are run by the plan
 //! of the whole run, and nothing is carried over.
+//!
+//! Where nobody waits and bodies are short, `run_epochs` goes on in control order instead (`epoch_run_in_order`): activations run one
+//! after the other, with no plan, until one of them doesn't find there what it reads. What ran is then held as after an epoch.
 #![tactic(auto)]
 
 mod adding;
@@ -18,6 +21,7 @@ mod beside;
 mod epoch;
 mod epochs;
 mod held;
+mod in_order;
 mod joining;
 mod next_spans;
 mod open_bodies;
@@ -29,6 +33,7 @@ mod room;
 mod size;
 mod standing;
 mod unended;
+mod way;
 
 pub use epochs::{run_epochs, run_epochs_of};
 pub use result::{Budgets, RunResult};

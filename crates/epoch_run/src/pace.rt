@@ -30,6 +30,22 @@ impl Pace {
         Pace::Steps((steps / frames as u64).max(COUNTED))
     }
 
+    /// Whether bodies are known to be so short that several workers gain nothing by a table.
+    pub(crate) fn is_short(self) -> bool {
+        match self {
+            Pace::Steps(steps) => steps < TABLE_STEPS,
+            Pace::Unknown => false,
+        }
+    }
+
+    /// Whether they may be: they are, or nothing tells yet.
+    pub(crate) fn may_be_short(self) -> bool {
+        match self {
+            Pace::Steps(steps) => steps < TABLE_STEPS,
+            Pace::Unknown => true,
+        }
+    }
+
     /// How many of the workers are to run a plan round by round; none where they are to run it over one table.
     pub(crate) fn rounds_for(self, plan: &Plan, workers: u32) -> Option<u32>
         requires { 1 ≤ workers }
@@ -43,6 +59,15 @@ impl Pace {
             _ => None,
         }
     }
+}
+
+/// How many steps the bodies of so many activations may take together where these run one after the other: any number by one worker, and by
+/// several what short bodies take.
+pub(crate) fn most_steps(workers: u32, activations: u32) -> u64 {
+    if workers == 1 {
+        return u64::MAX;
+    }
+    u64::from(activations) * TABLE_STEPS
 }
 
 /// From how many steps on an average body gains by a table.

@@ -1,4 +1,4 @@
-ghost use Rattle.std.specs.Prelude.{◌≡◌, ◌<◌, ◌≤◌, ℕ, List, [], None, IfOk, IfSome, OnOk, length};
+ghost use Rattle.std.specs.Prelude.{◌≡◌, ◌<◌, ◌≤◌, ℕ, List, [], None, IfOk, IfSome, IsTrue, OnOk, length};
 ghost use Rattle.control_run.specs.Stretches.{given_by};
 ghost use Rattle.flow_core_laws.specs.declared.activation.Activation.{Activation};
 ghost use Rattle.os_code.specs.Codes.{parts_of};
@@ -16,10 +16,12 @@ use crate::at_once::run_at_once;
 use crate::beside::{advance, run_and_advance};
 use crate::epoch::run_epoch;
 use crate::held::Held;
+use crate::in_order::run_in_order;
 use crate::next_spans::NextSpans;
 use crate::open_bodies::OpenBodies;
 use crate::result::Budgets;
 use crate::size::EpochSize;
+use crate::way::Way;
 use control_run::ControlRun;
 use epoch_run_bodies::TaskBodies;
 use epoch_run_bodies::laws::later_activations_change_nothing;
@@ -37,11 +39,11 @@ use task_workers::Gate;
 #[derive(Drop)]
 pub(crate) struct Standing<'c> {
     /// The control program, where it has come.
-    control: ControlRun<'c>,
+    pub(crate) control: ControlRun<'c>,
     /// The activations that it has created, from a number on: those before it have ended, and are run no more.
-    activations: List<Activation>,
+    pub(crate) activations: List<Activation>,
     /// That number.
-    first: u32,
+    pub(crate) first: u32,
     /// The positions of all that it has created.
     pub layout: Layout,
     /// What is held of those that were run.
@@ -84,9 +86,79 @@ impl<'c> Standing<'c> {
         }
     }
 
-    /// Runs an epoch, and has the control program create the new activations of the next one. It answers how the control
-    /// program has ended, once it has. After `Memory` the run is to be given up.
+    /// Runs what has no end yet, and has the control program create more, by an epoch or in control order. It answers how the
+    /// control program has ended, once it has. After `Memory` the run is to be given up.
     pub(crate) fn go_on<R: Threads + Sync, G: Gate>(
+        &mut self,
+        rt: &R,
+        alloc: Global,
+        code: &Code,
+        input: &[u8],
+        budgets: Budgets,
+        workers: u32,
+        gate: &G,
+        size: EpochSize,
+        way: Way,
+    ) -> Result<Option<ControlEnd>, Memory>
+        requires workers { (1 ≤ workers) × (workers ≤ 64) }
+        requires budgets { AreBudgets budgets }
+        requires stands { StandsAt code.now input.now budgets self.old }
+        requires some { 1 ≤ size.activations }
+        ensures stands { IfOk result (λ _. StandsAt code.now input.now budgets self.new) }
+        ensures grows { IfOk result (λ end. end ≡ None → length (given_by self.old.control) < length (given_by self.new.control)) }
+        ensures all { IfOk result (λ end. IfSome end (λ _. given_by self.new.control ≡ created (parts_of code.now) input.now budgets)) }
+        ensures end { IfOk result (λ end. IfSome end (λ e. e ≡ (control (parts_of code.now) (length input.now) budgets.control).end)) }
+    {
+        if way == Way::InOrder && self.may_go_in_order(workers) {
+            return self.go_on_in_order(rt, alloc, code, input, budgets, workers, gate, size);
+        }
+        self.go_on_in_epochs(rt, alloc, code, input, budgets, workers, gate, size)
+    }
+
+    /// Whether nobody waited behind the last epoch, and bodies may be short for what a table costs. To one worker their length makes no
+    /// difference.
+    fn may_go_in_order(&self, workers: u32) -> bool {
+        self.held.without_end.len() == 0 && (workers == 1 || self.held.pace.may_be_short())
+    }
+
+    /// Whether nobody waits now, and bodies are short.
+    fn goes_in_order(&self, workers: u32) -> bool
+        ensures { IsTrue result → length self.now.held.without_end ≡ 0 }
+    {
+        self.held.without_end.len() == 0 && (workers == 1 || self.held.pace.is_short())
+    }
+
+    /// Runs what has no end yet by itself, which tells whether one waits and how long bodies are; and goes on in control order where
+    /// that serves, and else in epochs.
+    fn go_on_in_order<R: Threads + Sync, G: Gate>(
+        &mut self,
+        rt: &R,
+        alloc: Global,
+        code: &Code,
+        input: &[u8],
+        budgets: Budgets,
+        workers: u32,
+        gate: &G,
+        size: EpochSize,
+    ) -> Result<Option<ControlEnd>, Memory>
+        requires workers { (1 ≤ workers) × (workers ≤ 64) }
+        requires budgets { AreBudgets budgets }
+        requires stands { StandsAt code.now input.now budgets self.old }
+        requires some { 1 ≤ size.activations }
+        ensures stands { IfOk result (λ _. StandsAt code.now input.now budgets self.new) }
+        ensures grows { IfOk result (λ end. end ≡ None → length (given_by self.old.control) < length (given_by self.new.control)) }
+        ensures all { IfOk result (λ end. IfSome end (λ _. given_by self.new.control ≡ created (parts_of code.now) input.now budgets)) }
+        ensures end { IfOk result (λ end. IfSome end (λ e. e ≡ (control (parts_of code.now) (length input.now) budgets.control).end)) }
+    {
+        self.run(rt, alloc, code, input, budgets, workers, gate)?;
+        if self.goes_in_order(workers) {
+            return run_in_order(self, alloc, code, input, budgets, workers, gate);
+        }
+        self.go_on_in_epochs(rt, alloc, code, input, budgets, workers, gate, size)
+    }
+
+    /// Runs an epoch, and has the control program create the new activations of the next one.
+    fn go_on_in_epochs<R: Threads + Sync, G: Gate>(
         &mut self,
         rt: &R,
         alloc: Global,

@@ -1,0 +1,204 @@
+//! Going on in control order: stretch by stretch, with no plan, as long as each activation finds there what it reads.
+
+ghost use Rattle.std.specs.Prelude.{◌≡◌, ◌++◌, ◌<◌, ◌≤◌, ℕ, IsTrue, List, [], None, true, false, IfOk, IfSome, OnOk, length, map};
+ghost use Rattle.control_run.specs.Stretches.{RunSoFar, given_by, whole};
+ghost use Rattle.epoch_run_bodies.specs.Frames.{frame_outcome};
+ghost use Rattle.epoch_run_in_order.specs.Standing.{IsReady, StandsBehind, meaning_in};
+ghost use Rattle.epoch_run_in_order_laws.specs.InOrder.{HaveAllEnded};
+ghost use Rattle.flow_core_epochs.specs.Epoch.{IsHeld};
+ghost use Rattle.flow_core_laws.specs.declared.activation.Activation.{Activation};
+ghost use Rattle.os_code.specs.Codes.{parts_of};
+ghost use Rattle.os_code.specs.Outcomes.{control};
+ghost use Rattle.os_code.specs.declared.code.Code.{Code};
+ghost use Rattle.stream_match.specs.Kept.{kept_of};
+ghost use Rattle.stream_match_layouts.specs.Layout.{IsLayout, IsLayoutOf, TakesMore};
+ghost use Rattle.stream_match_layouts.specs.Spans.{frame_count};
+ghost use Rattle.epoch_run.specs.Held.{IsHeldOf};
+ghost use Rattle.epoch_run.specs.InOrder.{GoesInOrder, HaveRunInOrder};
+ghost use Rattle.epoch_run.specs.Run.{AreBudgets, created};
+ghost use Rattle.epoch_run.specs.Standing.{HasCreated, StandsAt};
+ghost use Rattle.epoch_run.specs.declared.result.Budgets.{Budgets};
+
+use crate::beside::create;
+use crate::pace::{Pace, most_steps};
+use crate::result::Budgets;
+use crate::standing::Standing;
+use epoch_run_bodies::laws::later_activations_change_nothing;
+use epoch_run_in_order::{HeldInOrder, InOrder};
+use flow_core_laws::{ControlEnd, Ends};
+use os_code::Code;
+use os_io::{List, Memory};
+use std::alloc::Global;
+use std::mem;
+use task_workers::Gate;
+
+/// How many activations are created before they run.
+const STRETCH: u32 = 256;
+
+/// Goes on in control order behind activations that all have ended: stretch by stretch, until the control program has ended, or one of a
+/// stretch doesn't find there what it reads, or by several workers the bodies of a stretch are long. What has no end then is left to
+/// the next epoch. It answers how the control program has ended, once it has. After `Memory` the run is to be given up.
+pub(crate) fn run_in_order<G: Gate>(
+    run: &mut Standing<'_>,
+    alloc: Global,
+    code: &Code,
+    input: &[u8],
+    budgets: Budgets,
+    workers: u32,
+    gate: &G,
+) -> Result<Option<ControlEnd>, Memory>
+    requires budgets { AreBudgets budgets }
+    requires stands { StandsAt code.now input.now budgets run.old }
+    requires ran { IsHeldOf (parts_of code.now) (given_by run.old.control) input.now budgets.task run.old.held }
+    requires none { length run.old.held.without_end ≡ 0 }
+    ensures stands { IfOk result (λ _. StandsAt code.now input.now budgets run.new) }
+    ensures grows { IfOk result (λ end. end ≡ None → length (given_by run.old.control) < length (given_by run.new.control)) }
+    ensures all { IfOk result (λ end. IfSome end (λ _. given_by run.new.control ≡ created (parts_of code.now) input.now budgets)) }
+    ensures end { IfOk result (λ end. IfSome end (λ e. e ≡ (control (parts_of code.now) (length input.now) budgets.control).end)) }
+{
+    later_activations_change_nothing();
+    let mut order = begin(run, alloc, code)?;
+    run_stretches(run, &mut order, alloc, code, input, budgets, workers, gate)?;
+    hold(run, alloc, order)?;
+    Ok(run.control.end())
+}
+
+/// Takes how the activations so far ended, and what is kept of them, for a run in control order.
+fn begin(run: &mut Standing<'_>, alloc: Global, code: &Code) -> Result<InOrder, Memory>
+    requires whole { IsLayout run.old.layout }
+    requires streams { length run.old.layout.writers ≡ code.now.streams }
+    ensures ready { IfOk result (IsReady code.now) }
+    ensures count { IfOk result (λ order. length order.ends ≡ length run.old.held.ends.ends) }
+    ensures stands { IfOk result (λ order. (all before : List Activation) (input : List ℕ) (budget : ℕ) → IsLayoutOf run.old.layout before
+        → IsHeld before input (frame_outcome (parts_of code.now) all budget) run.old.held.ends.ends (map kept_of run.old.held.kept.items)
+        run.old.held.ends.output
+        → HaveAllEnded (meaning_in (parts_of code.now) all before input budget)
+        → StandsBehind (parts_of code.now) all before input budget order) }
+    ensures same { OnOk result (run.new ≡ record run.old { held = run.new.held }) }
+{
+    let nothing = Ends {
+        ends: List::new(alloc),
+        output: List::new(alloc),
+    };
+    let ends = mem::replace(&mut run.held.ends, nothing);
+    let order = InOrder::behind(alloc, code, &run.layout, ends, run.held.kept.as_slice())?;
+    Ok(order)
+}
+
+/// Runs stretch by stretch, as far as that goes.
+fn run_stretches<G: Gate>(
+    run: &mut Standing<'_>,
+    order: &mut InOrder,
+    alloc: Global,
+    code: &Code,
+    input: &[u8],
+    budgets: Budgets,
+    workers: u32,
+    gate: &G,
+) -> Result<(), Memory>
+    requires budgets { AreBudgets budgets }
+    requires ran { HaveRunInOrder code.now input.now budgets run.old order.old }
+    ensures goes { OnOk result (GoesInOrder code.now input.now budgets run.new order.new) }
+    ensures grows { OnOk result (run.new.control.has_ended ≡ false → length (given_by run.old.control) < length (given_by run.new.control)) }
+    ensures told { OnOk result (run.new.control.has_ended ≡ true → given_by run.new.control ≡ (whole run.new.control).activations) }
+{
+    'stretches: loop {
+        let goes_on = run_stretch(run, order, alloc, code, input, budgets, workers, gate)?;
+        if !goes_on {
+            break 'stretches;
+        }
+    }
+    Ok(())
+}
+
+/// Creates a stretch of activations and runs it, as far as that goes. It answers whether all of them ran, and more may come.
+fn run_stretch<G: Gate>(
+    run: &mut Standing<'_>,
+    order: &mut InOrder,
+    alloc: Global,
+    code: &Code,
+    input: &[u8],
+    budgets: Budgets,
+    workers: u32,
+    gate: &G,
+) -> Result<bool, Memory>
+    requires budgets { AreBudgets budgets }
+    requires ran { HaveRunInOrder code.now input.now budgets run.old order.old }
+    ensures goes { OnOk result (GoesInOrder code.now input.now budgets run.new order.new) }
+    ensures grows { OnOk result (run.new.control.has_ended ≡ false → length (given_by run.old.control) < length (given_by run.new.control)) }
+    ensures told { OnOk result (run.new.control.has_ended ≡ true → given_by run.new.control ≡ (whole run.new.control).activations) }
+    ensures all { IfOk result (λ more. IsTrue more → HaveRunInOrder code.now input.now budgets run.new order.new) }
+    ensures more { IfOk result (λ more. IsTrue more → run.new.control.has_ended ≡ false) }
+{
+    create_stretch(run, alloc)?;
+    let all = run_created(run, order, code, input, budgets, workers, gate)?;
+    if !all {
+        return Ok(false);
+    }
+    order.give_up(alloc, &run.layout)?;
+    Ok(run.control.end().is_none())
+}
+
+/// Has the control program create the next activations, and lays them out. Those before them have ended, and their lists are used again.
+fn create_stretch(run: &mut Standing<'_>, alloc: Global) -> Result<(), Memory>
+    requires laid { IsLayout run.old.layout }
+    requires takes { (after : RunSoFar) (added : List Activation) → HasCreated 256 run.old.control after [] added → TakesMore run.old.layout added }
+    ensures created { OnOk result (HasCreated 256 run.old.control run.new.control [] run.new.activations) }
+    ensures first { OnOk result (run.new.first ≡ frame_count run.old.layout) }
+    ensures laid { OnOk result ((before : List Activation) → IsLayoutOf run.old.layout before → IsLayoutOf run.new.layout (before ++ run.new.activations)) }
+    ensures streams { OnOk result (length run.new.layout.writers ≡ length run.old.layout.writers) }
+    ensures input { OnOk result (run.new.layout.input_len ≡ run.old.layout.input_len) }
+{
+    run.first = run.layout.frames() as u32;
+    let ended = mem::replace(&mut run.activations, List::new(alloc));
+    run.control.reuse(ended);
+    create(&mut run.control, &mut run.activations, STRETCH)?;
+    run.layout.append(run.activations.as_slice())?;
+    Ok(())
+}
+
+/// Runs the activations of a stretch, as far as each of them finds there what it reads, and tells how long their bodies were. It
+/// answers whether all of them ran.
+fn run_created<G: Gate>(
+    run: &mut Standing<'_>,
+    order: &mut InOrder,
+    code: &Code,
+    input: &[u8],
+    budgets: Budgets,
+    workers: u32,
+    gate: &G,
+) -> Result<bool, Memory>
+    requires budgets { AreBudgets budgets }
+    requires goes { GoesInOrder code.now input.now budgets run.old order.old }
+    requires none_ran { run.old.first ≡ length order.old.ends }
+    ensures goes { OnOk result (GoesInOrder code.now input.now budgets run.new order.new) }
+    ensures all { IfOk result (λ all. IsTrue all → HaveRunInOrder code.now input.now budgets run.new order.new) }
+    ensures same { OnOk result (run.new ≡ record run.old { held = run.new.held }) }
+{
+    let begun = order.steps;
+    let count = order.run_all(
+        code,
+        run.activations.as_slice(),
+        &run.layout,
+        input,
+        budgets.task,
+        most_steps(workers, STRETCH),
+        gate,
+    )?;
+    run.held.pace = Pace::of(order.steps.saturating_sub(begun), count);
+    Ok(count == run.activations.len())
+}
+
+/// Holds what was run, as after an epoch.
+fn hold(run: &mut Standing<'_>, alloc: Global, order: InOrder) -> Result<(), Memory>
+    ensures stands { OnOk result ((code : Code) (input : List ℕ) (budgets : Budgets) → GoesInOrder code input budgets run.old order
+        → StandsAt code input budgets run.new) }
+    ensures control { OnOk result (run.new.control ≡ run.old.control) }
+{
+    later_activations_change_nothing();
+    let HeldInOrder { ends, kept } = order.hold(alloc)?;
+    run.held.ends = ends;
+    run.held.kept = kept;
+    run.held.without_end = List::new(alloc);
+    Ok(())
+}
