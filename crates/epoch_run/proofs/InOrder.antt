@@ -36,7 +36,7 @@ use Rattle.stream_match_layouts.specs.Spans.{frame_count}
 use Rattle.stream_match_layouts.specs.declared.layout.Layout.{Layout}
 use Rattle.epoch_run.proofs.Listing.{all_ended}
 use Rattle.epoch_run.proofs.Step.{length-ends, same_held}
-use Rattle.epoch_run.specs.Held.{IsHeldBefore, IsHeldOf}
+use Rattle.epoch_run.specs.Held.{IsHeldOf}
 use Rattle.epoch_run.specs.InOrder.{AreLaidOut, GoesInOrder, HaveRunInOrder}
 use Rattle.epoch_run.specs.Run.{created}
 use Rattle.epoch_run.specs.Standing.{HasCreated, StandsAt}

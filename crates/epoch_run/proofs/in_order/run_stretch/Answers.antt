@@ -1,4 +1,4 @@
-use Rattle.std.proofs.Common.{List, rules}
+use Rattle.std.proofs.Common.{rules}
 use Rattle.std.specs.Prelude.{IsTrue}
 use Rattle.control_run.specs.Stretches.{given_by}
 use Rattle.epoch_run.proofs.InOrder.{gave_up_in_order, next_stretch}
