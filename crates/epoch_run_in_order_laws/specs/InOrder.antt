@@ -52,4 +52,5 @@ kept_on stream first elements = elements_at (places_from stream first (length el
 
 -- Those of all declared streams, by stream.
 abbrev pub kept_in : List (List (Option Elem)) → (firsts : List ℕ) → List Kept
-kept_in elements firsts = flat_map (λ stream. kept_on stream (slice_index firsts stream) (slice_index_or elements stream [])) (range_with_len 2 (length elements - 2))
+kept_in elements firsts =
+    flat_map (λ stream. kept_on stream (slice_index firsts stream) (slice_index_or elements stream [])) (range_with_len 2 (length elements - 2))
