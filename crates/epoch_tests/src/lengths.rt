@@ -3,7 +3,7 @@
 ghost use Rattle.std.specs.Prelude.{◌≤◌};
 
 use crate::compiled::compiled;
-use epoch_run::{Budgets, EpochSize, RunResult, run_epochs_of};
+use epoch_run::{Budgets, EpochSize, RunResult, run_epochs, run_epochs_of};
 use kernels::{BROADCAST, INVERT, LIFT, PIPELINE, SMOOTH};
 use os_code::Code;
 use std::alloc::Global;
@@ -116,6 +116,25 @@ const POISONED: &str = r"int main(void) {
     }
     #pragma omp task output(s << y)
     y = 1 / 0;
+}
+";
+
+/// Some 1,200 activations of which each reads what the one before it wrote, but for a few that wait for the one behind them.
+const LONG: &str = r"int main(void) {
+    int s __attribute__((stream)), t __attribute__((stream));
+    int i, x, y;
+    for (i = 0; i < 600; i++) {
+        if (i % 250 == 100) {
+            #pragma omp task input(t >> x) output(osout << y)
+            y = x;
+            #pragma omp task output(t << y)
+            y = i & 255;
+        }
+        #pragma omp task output(s << y)
+        y = i + 0 / (i - 400) & 255;
+        #pragma omp task input(s >> x) output(osout << y)
+        y = x + 1 & 255;
+    }
 }
 ";
 
@@ -235,5 +254,49 @@ fn epochs_that_grow_while_activations_wait_come_to_what_one_comes_to(
             comes_to_the_same(&rt, rt.alloc(), text, growing(growth));
         }
     }
+    Ok(())
+}
+
+/// A run by so many workers, in control order where that may be.
+fn run_in_order<R: Threads + Sync>(
+    rt: &R,
+    alloc: Global,
+    code: &Code,
+    workers: u32,
+) -> Option<RunResult>
+    requires { (1 ≤ workers) × (workers ≤ 64) }
+{
+    let budgets = Budgets {
+        task: TURNS,
+        control: 1_000_000,
+    };
+    run_epochs(rt, alloc, code, &INPUT, budgets, workers, &NoGate).ok()
+}
+
+/// Asks that a program comes to the same in control order, by one worker and by three, as in one epoch.
+fn comes_to_the_same_in_order<R: Threads + Sync + Abort>(rt: &R, alloc: Global, text: &str) {
+    let code = compiled(rt, alloc, text);
+    let Some(code) = code else {
+        assert!(rt; false, "{text}");
+        return;
+    };
+    let whole = run(rt, alloc, &code, of_activations(4096), 1);
+    let alone = run_in_order(rt, alloc, &code, 1);
+    let beside = run_in_order(rt, alloc, &code, 3);
+    match (whole, alone, beside) {
+        (Some(whole), Some(alone), Some(beside)) => {
+            assert!(rt; are_same(&whole, &alone), "{text}");
+            assert!(rt; are_same(&whole, &beside), "{text}");
+        }
+        _ => assert!(rt; false, "memory is ample"),
+    }
+}
+
+#[test]
+fn runs_in_control_order_come_to_what_one_epoch_comes_to(rt: HostRuntime) -> Result<(), Fail> {
+    for text in PROGRAMS {
+        comes_to_the_same_in_order(&rt, rt.alloc(), text);
+    }
+    comes_to_the_same_in_order(&rt, rt.alloc(), LONG);
     Ok(())
 }

@@ -1,7 +1,7 @@
 //! Compiled programs, run in epochs.
 //!
-//! There is nothing here but tests: a run in epochs of any length, by any number of workers, comes to what one epoch comes to, and `main` by
-//! stretches creates what it creates at once.
+//! There is nothing here but tests: a run in epochs of any length, by any number of workers, comes to what one epoch comes to, and so does one
+//! in control order; and `main` by stretches creates what it creates at once.
 #![tactic(auto)]
 
 #[cfg(test)]
