@@ -10,6 +10,9 @@ most, and nothing else.
     pipeline    pairs of activations: one reads two elements of the input and writes two, the other reads these and writes two
     chain       each reads one element that the one before it wrote
     lift        each reads four elements of the input and writes four: examples/lift.c
+    swapped     pairs of activations: one reads two elements that the one behind it writes, so it waits
+
+All but the last are run in control order, with no plan; the last one goes through epochs.
 
 ./build has to have built the program."""
 import os
@@ -57,6 +60,25 @@ int main(void) {
 }
 """
 
+SWAPPED = """int main(void) {
+    int mid __attribute__((stream));
+    int i;
+    for (i = 0; i + 1 < osin_len; i += 2) {
+        int a[2], m[2], q[2], o[2];
+        #pragma omp task input(mid >> q[2]) output(osout << o[2])
+        {
+            o[0] = q[0];
+            o[1] = q[1];
+        }
+        #pragma omp task input(osin >> a[2]) output(mid << m[2])
+        {
+            m[0] = a[1];
+            m[1] = a[0];
+        }
+    }
+}
+"""
+
 CHAIN = """int main(void) {
     int s __attribute__((stream));
     int i, x, y;
@@ -75,6 +97,7 @@ RUNS = {
     "pipeline": (PIPELINE, lambda count: count),
     "chain": (CHAIN, lambda count: count),
     "lift": (None, lambda count: 4 * count),
+    "swapped": (SWAPPED, lambda count: count),
 }
 
 # What counts for which stop: the beginnings of the names of functions.
@@ -85,6 +108,7 @@ STOPS = {
     "plan": ["stream_match::", "epoch_run_ready::", "flow_core_epochs::"],
     "delivery": ["flow_core::", "task_workers::", "task_workers_round::", "flow_core_laws::"],
     "carrying": ["epoch_run::", "epoch_run_carrying::"],
+    "in order": ["epoch_run_in_order::"],
     "bodies": ["task_vm::", "epoch_run_bodies::"],
     "copies": ["__mem"],
 }
