@@ -12,7 +12,7 @@ most, and nothing else.
     lift        each reads four elements of the input and writes four: examples/lift.c
     swapped     pairs of activations: one reads two elements that the one behind it writes, so it waits
 
-All but the last are run in control order, with no plan; the last one goes through epochs.
+All but the last are run in control order, with no plan, delivery or carrying; the last one goes through epochs.
 
 ./build has to have built the program."""
 import os
@@ -107,8 +107,7 @@ STOPS = {
     "positions": ["stream_match_layouts::"],
     "plan": ["stream_match::", "epoch_run_ready::", "flow_core_epochs::"],
     "delivery": ["flow_core::", "task_workers::", "task_workers_round::", "flow_core_laws::"],
-    "carrying": ["epoch_run::", "epoch_run_carrying::"],
-    "in order": ["epoch_run_in_order::"],
+    "in order, carrying": ["epoch_run::", "epoch_run_carrying::", "epoch_run_in_order::"],
     "bodies": ["task_vm::", "epoch_run_bodies::"],
     "copies": ["__mem"],
 }
