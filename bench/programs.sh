@@ -52,6 +52,52 @@ int main(void) {
 }
 END
 
+cat >overlap.c <<'END'
+int main(void) {
+    int i;
+    for (i = 0; i + 2 < osin_len; i++) {
+        int w[3], y;
+        #pragma omp task input(osin >> w[1]) output(osout << y)
+        y = (w[0] + w[1] + w[2]) / 3;
+    }
+}
+END
+cat >pipeline.c <<'END'
+int wrap(int d) {
+    return ((d + 128) & 255) - 128;
+}
+int main(void) {
+    int mid __attribute__((stream));
+    int i;
+    for (i = 0; i + 1 < osin_len; i += 2) {
+        int a[2], m[2], q[2], o[2];
+        #pragma omp task input(osin >> a[2]) output(mid << m[2])
+        {
+            int d = wrap(a[1] - a[0]);
+            m[0] = (a[0] + (d >> 1)) & 255;
+            m[1] = d;
+        }
+        #pragma omp task input(mid >> q[2]) output(osout << o[2])
+        {
+            o[0] = q[0];
+            o[1] = (q[1] / 4) & 255;
+        }
+    }
+}
+END
+cat >chain.c <<'END'
+int main(void) {
+    int s __attribute__((stream));
+    int i, x, y, z, o;
+    #pragma omp task input(osin >> z) output(s << y, osout << o)
+    { y = z; o = z; }
+    for (i = 1; i < osin_len; i++) {
+        #pragma omp task input(s >> x, osin >> z) output(s << y, osout << o)
+        { y = (x + z) & 255; o = y; }
+    }
+}
+END
+
 # Inputs: bytes of a generator, made in parts of 4,096.
 awk 'BEGIN { x = 1; for (k = 0; k < 4096; k++) { x = x * 16807 % 2147483647; printf "\\%03o", int(x / 65536 % 256) } }' >escaped
 printf "$(cat escaped)" >part
@@ -60,6 +106,9 @@ head -c 4 part >first.in
 for _ in $(seq 64); do cat part; done >lift.in
 for _ in $(seq 256); do cat part; done >invert.in
 cp invert.in wavelet.in
+head -c 65536 lift.in >chain.in
+cp chain.in pipeline.in
+{ cat chain.in; head -c 2 part; } >overlap.in
 
 # The same work in C.
 cat >work.c <<'END'
@@ -98,12 +147,41 @@ static void work(char kind, const unsigned char *in, unsigned char *out, int i, 
             out[k] = (in[k] + (d >> 1)) & 255;
             out[k + 1] = d & 255;
         }
+    } else if (kind == 'o') {
+        out[i] = (in[i] + in[i + 1] + in[i + 2]) / 3;
     } else if (kind == 'w') {
         wavelet(in + i, out + i, size);
     } else {
         int x = i + 1;
         for (int k = 0; k < 200000; k++) x = (x * 31 + (x >> 3) + k) & 65535;
         out[i] = x & 255;
+    }
+}
+
+/* An activation of the pipeline's first task, and one of its second. */
+static void split(const unsigned char *in, int *mid) {
+    int d = wrap(in[1] - in[0]);
+    mid[0] = (in[0] + (d >> 1)) & 255;
+    mid[1] = d;
+}
+
+static void scale(const int *mid, unsigned char *out) {
+    out[0] = mid[0];
+    out[1] = (mid[1] / 4) & 255;
+}
+
+/* The tasks of a pipeline and of a chain, of which each waits for another one. */
+static void wait_for_others(char kind, const unsigned char *in, unsigned char *out, int length) {
+    static int mid[65536];
+    for (int i = 0; kind == 'p' && i + 1 < length; i += 2) {
+        #pragma omp task firstprivate(i) depend(out: mid[i])
+        split(in + i, mid + i);
+        #pragma omp task firstprivate(i) depend(in: mid[i])
+        scale(mid + i, out + i);
+    }
+    for (int i = 0; kind == 'c' && i < length; i++) {
+        #pragma omp task firstprivate(i) depend(inout: mid[0])
+        out[i] = mid[0] = (mid[0] + in[i]) & 255;
     }
 }
 
@@ -116,12 +194,20 @@ int main(int argc, char **argv) {
         length = written = 32;
         size = 1;
     }
+    if (strcmp(argv[1], "overlap") == 0) {
+        written = length > 2 ? length - 2 : 0;
+        size = 1;
+    }
+    int waits = strcmp(argv[1], "pipeline") == 0 || strcmp(argv[1], "chain") == 0;
     #pragma omp parallel
     #pragma omp single
-    for (int i = 0; i < length; i += size) {
-        #pragma omp task firstprivate(i)
-        work(argv[1][0], in, out, i, size);
-    }
+    if (waits)
+        wait_for_others(argv[1][0], in, out, length);
+    else
+        for (int i = 0; i + (size == 1 ? length - written : 0) < length; i += size) {
+            #pragma omp task firstprivate(i)
+            work(argv[1][0], in, out, i, size);
+        }
     fwrite(out, 1, written, stdout);
     return 0;
 }
@@ -161,6 +247,22 @@ elseif kind == "lift" then
     local d = wrap(input:byte(k + 1) - input:byte(k))
     out[k] = string.char((input:byte(k) + d // 2) & 255)
     out[k + 1] = string.char(d & 255)
+  end
+elseif kind == "overlap" then
+  for k = 1, #input - 2 do
+    out[k] = string.char((input:byte(k) + input:byte(k + 1) + input:byte(k + 2)) // 3)
+  end
+elseif kind == "pipeline" then
+  for k = 1, #input - 1, 2 do
+    local d = wrap(input:byte(k + 1) - input:byte(k))
+    out[k] = string.char((input:byte(k) + d // 2) & 255)
+    out[k + 1] = string.char((d < 0 and -(-d // 4) or d // 4) & 255)
+  end
+elseif kind == "chain" then
+  local x = 0
+  for k = 1, #input do
+    x = (x + input:byte(k)) & 255
+    out[k] = string.char(x)
   end
 elseif kind == "wavelet" then
   for first = 1, #input, 4096 do wavelet(first, math.min(4096, #input - first + 1)) end
@@ -252,6 +354,9 @@ done <<'END'
 first 1
 invert 16384
 lift 65536
+overlap 65536
+pipeline 65536
+chain 65536
 turns 32
 wavelet 256
 END
