@@ -27,7 +27,7 @@ impl Sizes {
     ghost use Rattle.oscheck_warnings.specs.Bursts.{is_slot};
     ghost use Rattle.oscheck_warnings.specs.Sizes.{sized};
 
-    /// None.
+    /// No window's size is known yet.
     fn new(alloc: Global) -> Sizes
         ensures { (slot : ℕ) → sized result slot ≡ None }
     {
@@ -36,7 +36,7 @@ impl Sizes {
         }
     }
 
-    /// One more.
+    /// Notes the size of the window in a slot, in place of what was noted there.
     fn add(&mut self, slot: u32, amount: Amount) -> Result<(), Memory>
         ensures { OnOk result ((other : ℕ) → sized self.new other ≡ (if slot == other then Some amount else sized self.old other)) }
     {

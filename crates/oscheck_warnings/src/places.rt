@@ -12,7 +12,7 @@ impl Places {
     ghost use Rattle.std.specs.Prelude.{◌≡◌, ◌||◌, ◌==◌, ◌&&◌, ℕ, false, OnOk};
     ghost use Rattle.oscheck_warnings.specs.Places.{has};
 
-    /// None.
+    /// An empty set.
     pub(crate) fn new(alloc: Global) -> Places
         ensures { (place : ℕ) → has result place ≡ false }
     {
@@ -21,7 +21,7 @@ impl Places {
         }
     }
 
-    /// One more.
+    /// Adds a place to the set.
     fn add(&mut self, place: u32) -> Result<(), Memory>
         ensures { OnOk result ((other : ℕ) → has self.new other ≡ ((place == other) || has self.old other)) }
     {

@@ -7,13 +7,13 @@ use flow_core_laws::TaskEnd;
 /// How activations end that are counted.
 #[derive(Clone, Copy, Debug)]
 pub(crate) enum Ending {
-    /// In any way, or not at all.
+    /// In any way, starved ones included.
     Any,
     Done,
     Trapped,
     OverBudget,
     Poisoned,
-    /// Not at all.
+    /// With no end, since an input of theirs never comes.
     Starved,
 }
 

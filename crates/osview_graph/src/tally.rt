@@ -65,7 +65,7 @@ fn with_use(sizes: Option<Sizes>, one: Use) -> Sizes
 }
 
 impl Tally {
-    /// No use.
+    /// A tally in which no use is counted yet.
     fn new(alloc: Global) -> Tally
         ensures { (u : Use) → left result u ≡ None }
     {
@@ -81,7 +81,7 @@ impl Tally {
         self.sizes.get(&one.item()).copied()
     }
 
-    /// One more use.
+    /// Counts a use.
     fn add(&mut self, one: Use) -> Result<(), Memory>
         ensures { OnOk result ((u : Use) → left self.new u
             ≡ (if is_alike u one then Some (with_use (left self.old u) one) else left self.old u)) }
@@ -91,7 +91,7 @@ impl Tally {
         Ok(())
     }
 
-    /// Some uses.
+    /// The tally of a list of uses.
     pub(crate) fn of(alloc: Global, all: &[Use]) -> Result<Tally, Memory>
         ensures { IfOk result (λ tally. (u : Use) → left tally u ≡ sizes_of (filter (is_alike u) all.now)) }
     {

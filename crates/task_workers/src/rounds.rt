@@ -70,7 +70,7 @@ fn opened_from(board: &Board, turn: usize) -> &[u32]
     &board.waits.opened[turn..]
 }
 
-/// Runs the frames that were opened from a turn on, by as many of the workers as they are worth.
+/// Runs the frames that were opened from a turn on. `workers_for` says how many of the workers share them.
 fn run_opened<R: Threads + Sync, B: Bodies<Scratch = S>, G: Gate, S: Send + Drop>(
     rt: &R,
     plan: &Plan,
