@@ -202,7 +202,7 @@ fn emit_step(
     draft.emit(Instr::Jump(again.number))
 }
 
-/// The beginning of a loop, with its unit of the budget.
+/// The beginning of a loop, with the turn that it takes.
 fn begin(draft: &mut Draft) -> Result<Label, Memory>
     ensures { IfOk result (λ again. (again ≡ next_label draft.old) × (draft.new ≡ with_instr (with_place (with_label draft.old) again) Instr.Turn)) }
 {

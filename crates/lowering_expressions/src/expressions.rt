@@ -79,7 +79,7 @@ pub(crate) fn emit_place(
     Ok(named.unsigned)
 }
 
-/// Adds the code of a call: its arguments, the unit of the budget that it takes, and the call itself.
+/// Adds the code of a call: its arguments, the turn that it takes, and the call itself.
 #[cycle(expressions)]
 #[tactic(auto, using(crate::proofs::Rules::expressions))]
 pub fn emit_call(draft: &mut Draft, told: &Told<'_>, call: &Call) -> Result<bool, Memory>

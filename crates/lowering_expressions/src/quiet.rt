@@ -1,4 +1,4 @@
-//! Expressions that can neither trap nor take a unit of the budget.
+//! Expressions that can neither trap nor take a turn of the budget.
 
 ghost use Rattle.std.specs.Prelude.{◌≡◌, ◌&&◌};
 ghost use Rattle.os_ast.specs.Views.{expr_tree, links_tree};
