@@ -2,18 +2,18 @@
 
 ghost use Rattle.std.specs.Prelude.{◌≡◌, OnOk, map, option_map};
 ghost use Rattle.lowering_draft.specs.Emission.Tasks.{burst_code, item_code, items_code, join_code, stream_code, tick_code};
-ghost use Rattle.os_ast.specs.ClauseParts.{Item, parts, parts_of};
-ghost use Rattle.os_ast.specs.Views.{clause_item_tree, clause_kind_tree, clause_tree, expr_tree, index_tree, join_tree, target_tree};
+ghost use Rattle.os_ast.specs.ClauseParts.{parts};
+ghost use Rattle.os_ast.specs.Views.{clause_item_tree, clause_tree, expr_tree, index_tree, join_tree, target_tree};
 ghost use Rattle.lowering_relation.specs.Names.{told_at};
 
-use lowering_draft::{Draft, Told, bursting, count_of, first_of};
+use lowering_draft::{Draft, ItemVisitor, Told, bursting, count_of, first_of, visit_items};
 use lowering_expressions::emit_expr;
-use os_ast::{Clause, ClauseItem, ClauseKind, Direction, Index, Join, Target, TickSite};
+use os_ast::{Clause, ClauseItem, Direction, Index, Join, Target, TickSite};
 use os_code::Instr;
 use os_io::{List, Memory};
 
 /// The items of a task, in the order of its clauses.
-#[tactic(auto, using(crate::proofs::Rules::items))]
+#[tactic(auto, using(lowering_draft::proofs::Items::items_code_visited))]
 pub(crate) fn emit_items(
     draft: &mut Draft,
     told: &Told<'_>,
@@ -21,38 +21,28 @@ pub(crate) fn emit_items(
 ) -> Result<(), Memory>
     ensures { OnOk result (draft.new ≡ items_code (told_at told.now.names.now) (parts (map clause_tree clauses.now)) draft.old) }
 {
-    for clause in clauses.as_slice() {
-        emit_clause(draft, told, &clause.kind)?;
-    }
-    Ok(())
+    visit_items(&ItemCode, draft, told, clauses)
 }
 
-/// The items of a clause.
-#[tactic(auto, using(lowering_draft::proofs::Parts::items_code_private))]
-fn emit_clause(draft: &mut Draft, told: &Told<'_>, kind: &ClauseKind) -> Result<(), Memory>
-    ensures { OnOk result (draft.new ≡ items_code (told_at told.now.names.now) (parts_of (clause_kind_tree kind.now)) draft.old) }
-{
-    match kind {
-        ClauseKind::Input(items) => emit_all(draft, told, Direction::Reads, items),
-        ClauseKind::Output(items) => emit_all(draft, told, Direction::Writes, items),
-        ClauseKind::Firstprivate(_) => Ok(()),
-    }
-}
+/// The code of each item.
+struct ItemCode;
 
-/// Items of one direction.
-#[tactic(auto, using(crate::proofs::Rules::items))]
-fn emit_all(
-    draft: &mut Draft,
-    told: &Told<'_>,
-    direction: Direction,
-    items: &List<ClauseItem>,
-) -> Result<(), Memory>
-    ensures { OnOk result (draft.new ≡ items_code (told_at told.now.names.now) (map (Item direction) (map clause_item_tree items.now)) draft.old) }
-{
-    for item in items.as_slice() {
-        emit_item(draft, told, direction, item)?;
+impl ItemVisitor for ItemCode {
+    ghost use Rattle.lowering_draft.specs.Emission.Tasks.{item_code};
+
+    type Made = Draft;
+
+    ghost with_item = { item_code };
+
+    fn visit(
+        &self,
+        draft: &mut Draft,
+        told: &Told<'_>,
+        direction: Direction,
+        item: &ClauseItem,
+    ) -> Result<(), Memory> {
+        emit_item(draft, told, direction, item)
     }
-    Ok(())
 }
 
 /// An item: the stream's index, then the burst.
@@ -108,7 +98,7 @@ fn emit_burst(
     }
 }
 
-/// A tick: the stream's index, the amount, its check, its unit of the budget, the move.
+/// A tick: the stream's index, the amount, its check, the turn that it takes, the move.
 pub(crate) fn emit_tick(draft: &mut Draft, told: &Told<'_>, tick: &TickSite) -> Result<(), Memory>
     ensures { OnOk result (draft.new
         ≡ tick_code (told_at told.now.names.now) (target_tree tick.now.stream) tick.now.arrow.line (expr_tree tick.now.amount) draft.old) }

@@ -16,6 +16,7 @@ pub mod Givens
 pub mod Going
 pub mod GoingOn
 pub mod Growing
+pub mod Items
 pub mod Keeping
 pub mod KeptExpressions
 pub mod KeptStatements

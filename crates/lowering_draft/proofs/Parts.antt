@@ -5,7 +5,6 @@ use Rattle.lowering_draft.specs.Emission.Tasks.{item_code, items_code}
 use Rattle.lowering_draft.specs.declared.draft.Draft.{Draft}
 use Rattle.os_ast.specs.ClauseParts.{ClausePart, Item, Private, parts, parts_of}
 use Rattle.os_ast.specs.Views.{clause_kind_tree, clause_tree}
-use Rattle.os_ast.specs.declared.expr.Name.{Name}
 use Rattle.os_ast.specs.declared.names.Resolved.{Resolved}
 use Rattle.os_ast.specs.declared.pragma.Clause.{Clause}
 
@@ -17,7 +16,3 @@ items_code-append tells (Private n ∷ ps) qs d = items_code-append tells ps qs 
 pub parts-drop : (cs : List Clause) (i : ℕ) (c : Clause) → i < length cs → c ≡ get_or cs i c →
     parts (map clause_tree (drop i cs)) ≡ parts_of (clause_kind_tree c.kind) ++ parts (map clause_tree (drop (i + 1) cs))
 parts-drop cs i c h is = rw (drop-cons cs i c h, ← is, add-one)
-
-pub items_code_private : (tells : ℕ → Resolved) (ns : List Name) (d : Draft) → items_code tells (map Private ns) d ≡ d
-items_code_private tells [] d = refl
-items_code_private tells (n ∷ ns) d = items_code_private tells ns d

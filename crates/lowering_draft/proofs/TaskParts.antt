@@ -1,26 +1,11 @@
--- The items of a site, and the tasks of a body, one part after another.
-use Rattle.std.proofs.Common.{◌≡◌, ◌∙◌, ℕ, List, [], ◌∷◌, ◌++◌, map, ap, sym, refl, append-nil}
+-- The tasks of a body, one after another.
+use Rattle.std.proofs.Common.{◌≡◌, ◌∙◌, ℕ, List, [], ◌∷◌, ◌++◌, ap, sym, refl}
 use Rattle.lowering_draft.specs.Emission.TaskUnits.{with_block_tasks, with_stmt_tasks}
 use Rattle.lowering_draft.specs.Emission.Units.{with_task, with_tasks}
 use Rattle.lowering_draft.specs.declared.units.Units.{Units}
-use Rattle.os_ast.specs.ClauseParts.{ClausePart, Item, Private}
 use Rattle.os_ast.specs.Trees as tree
-use Rattle.os_ast.specs.declared.expr.Name.{Name}
 use Rattle.os_ast.specs.declared.names.Resolved.{Resolved}
-use Rattle.os_code.specs.declared.site.SiteItem.{SiteItem}
-use Rattle.lowering_relation.specs.Tasks.{TaskTree, all_tasks_of, site_item, site_items, tasks_of}
-
-pub site_items-append : (tells : ℕ → Resolved) (ps qs : List ClausePart) → site_items tells (ps ++ qs) ≡ site_items tells ps ++ site_items tells qs
-site_items-append tells [] qs = refl
-site_items-append tells (Item d i ∷ ps) qs = ap (λ is. site_item tells d i ∷ is) (site_items-append tells ps qs)
-site_items-append tells (Private n ∷ ps) qs = site_items-append tells ps qs
-
-pub site_items_private : (tells : ℕ → Resolved) (ns : List Name) → site_items tells (map Private ns) ≡ []
-site_items_private tells [] = refl
-site_items_private tells (n ∷ ns) = site_items_private tells ns
-
-pub nothing_private : (tells : ℕ → Resolved) (made : List SiteItem) (ns : List Name) → made ≡ made ++ site_items tells (map Private ns)
-nothing_private tells made ns = sym (ap (λ is. made ++ is) (site_items_private tells ns) ∙ append-nil made)
+use Rattle.lowering_relation.specs.Tasks.{TaskTree, all_tasks_of, tasks_of}
 
 with_tasks-append : (tells : ℕ → Resolved) (captured : List (List ℕ)) (ts us : List TaskTree) (made : Units) →
     with_tasks tells captured (ts ++ us) made ≡ with_tasks tells captured us (with_tasks tells captured ts made)

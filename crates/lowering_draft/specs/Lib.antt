@@ -7,3 +7,4 @@ pub mod Laws
 -- The code as a function of the tree, and names in the order of their places.
 pub mod Ascending
 pub mod Emission
+pub mod Items

@@ -1,14 +1,15 @@
 //! The sites of tasks: what each captures, and its clause items.
 
-ghost use Rattle.std.specs.Prelude.{◌≡◌, ◌++◌, [], IfOk, OnOk, get_or, map, option_map};
-ghost use Rattle.os_ast.specs.ClauseParts.{Item, parts, parts_of};
-ghost use Rattle.os_ast.specs.Views.{clause_item_tree, clause_kind_tree, clause_tree, join_tree};
+ghost use Rattle.std.specs.Prelude.{◌≡◌, [], IfOk, get_or, map, option_map};
+ghost use Rattle.os_ast.specs.ClauseParts.{parts};
+ghost use Rattle.os_ast.specs.Views.{clause_item_tree, clause_tree, join_tree};
 ghost use Rattle.lowering_relation.specs.Names.{told_at};
 ghost use Rattle.lowering_relation.specs.Tasks.{is_write, site_item, site_items, window_of};
 
+use crate::clause_items::{ItemVisitor, visit_items};
 use crate::names::{first_of, slot_of};
 use crate::told::Told;
-use os_ast::{Clause, ClauseItem, ClauseKind, Direction, Join};
+use os_ast::{Clause, ClauseItem, Direction, Join};
 use os_code::SiteItem;
 use os_io::{List, Memory};
 use std::alloc::Global;
@@ -45,38 +46,30 @@ pub fn site_items(
     ensures { IfOk result (λ made. made ≡ site_items (told_at told.now.names.now) (parts (map clause_tree clauses.now))) }
 {
     let mut made = List::new(alloc);
-    for clause in clauses.as_slice() {
-        add_clause(&mut made, told, &clause.kind)?;
-    }
+    visit_items(&SiteItems, &mut made, told, clauses)?;
     Ok(made)
 }
 
-/// The items of a clause.
-#[tactic(auto, using(crate::proofs::Rules::sites))]
-fn add_clause(made: &mut List<SiteItem>, told: &Told<'_>, kind: &ClauseKind) -> Result<(), Memory>
-    ensures { OnOk result (made.new ≡ made.old ++ site_items (told_at told.now.names.now) (parts_of (clause_kind_tree kind.now))) }
-{
-    match kind {
-        ClauseKind::Input(items) => add_items(made, told, Direction::Reads, items),
-        ClauseKind::Output(items) => add_items(made, told, Direction::Writes, items),
-        ClauseKind::Firstprivate(_) => Ok(()),
-    }
-}
+/// What a site tells of each item.
+struct SiteItems;
 
-/// Items of one direction.
-#[tactic(auto, using(crate::proofs::Rules::sites))]
-fn add_items(
-    made: &mut List<SiteItem>,
-    told: &Told<'_>,
-    direction: Direction,
-    items: &List<ClauseItem>,
-) -> Result<(), Memory>
-    ensures { OnOk result (made.new ≡ made.old ++ site_items (told_at told.now.names.now) (map (Item direction) (map clause_item_tree items.now))) }
-{
-    for item in items.as_slice() {
-        made.push(site_item(told, direction, item))?;
+impl ItemVisitor for SiteItems {
+    ghost use Rattle.std.specs.Prelude.{◌++◌, [], ◌∷◌};
+    ghost use Rattle.lowering_relation.specs.Tasks.{site_item};
+
+    type Made = List<SiteItem>;
+
+    ghost with_item = { λ tells direction item made. made ++ site_item tells direction item ∷ [] };
+
+    fn visit(
+        &self,
+        made: &mut List<SiteItem>,
+        told: &Told<'_>,
+        direction: Direction,
+        item: &ClauseItem,
+    ) -> Result<(), Memory> {
+        made.push(site_item(told, direction, item))
     }
-    Ok(())
 }
 
 /// An item: its stream, and the slot of its window.
