@@ -237,6 +237,16 @@ run gen 1 2
 lines "eight bytes that are made" "seed 1 blocks 2" "input 8 sum 1363" "output 8 sum 1172" "status 0"
 run gen 0 1
 lines "four bytes that are made from 0" "seed 0 blocks 1" "input 4 sum 325" "output 4 sum 607" "status 0"
+run gen --workers=64 +7 0001
+lines "four bytes that are made from 7" "seed 7 blocks 1" "input 4 sum 448" "output 4 sum 480" "status 0"
+run gen 4294967295 3 --workers 1
+lines "twelve bytes that are made from the greatest seed" "seed 4294967295 blocks 3" "input 12 sum 1020" "output 12 sum 1183" "status 0"
+run gen -- 1 2
+lines "the end of the options before the seed" "seed 1 blocks 2" "input 8 sum 1363" "output 8 sum 1172" "status 0"
+for workers in 1 2 7 64; do
+    run gen 7 64 --workers "$workers"
+    lines "64 blocks by $workers workers" "seed 7 blocks 64" "input 256 sum 32578" "output 256 sum 32682" "status 0"
+done
 printf '\306\176\201\153\113\373\342\373' >made.bin
 run run "$top/examples/lift.c" made.bin
 check "the bytes of a seed, lifted" 0 a2b876ea23b0ee19 "control done / output 8 of 8"
@@ -288,6 +298,13 @@ check "an object with a byte behind it" 3 "" "refused 30"
 head -c 43 main.19.o >shorter.o
 run exec shorter.o nothing.bin
 check "an object without its last byte" 3 "" "refused 30"
+run exec shorter.o none.bin
+check "an object that is refused before its input is read" 3 "" "refused 30"
+head -c 4 main.19.o >four.o
+run exec four.o nothing.bin
+check "the first four bytes of an object" 3 "" "refused 30"
+run exec nothing.bin nothing.bin
+check "an empty object" 3 "" "refused 30"
 truncate -s 67108865 long.o
 run exec long.o nothing.bin
 check "an object that is too long" 4 "" "too long object"
@@ -300,6 +317,9 @@ run exec main.19.o none.bin
 check "an object without its input" 5 "" "read fault input"
 run compile empty.c
 check "a text that isn't compiled" 3 "" "refused 23 line 1"
+printf 'int' >front.c
+run compile front.c
+check "the front of a text, which isn't compiled" 3 "" "refused 4 line 1"
 run compile none.c
 check "a text that isn't there" 5 "" "read fault program"
 for words in "" "first.c in.bin" "first.c --workers 4" "--help"; do
@@ -342,6 +362,12 @@ check "an object from standard input" 0 fefdfcfb "control done / output 4 of 4"
 status=$?
 : >out
 check "a full standard output for an object" 6 "" ""
+run compile first.c
+mv out wanted
+"$osrun" compile first.c >out 2>/dev/full
+status=$?
+: >report
+agree "a full standard error, of which an object asks nothing" 0 wanted ""
 
 # Why an activation is starved. told_of NAME ACTIVATION STATUS LINE WORD..: compares the line that is told of an activation of
 # cycles.c over nothing.bin, or with the words behind the line over what they name.
@@ -438,6 +464,11 @@ told_of "one that reads poison, and on" 2 1 "not starved 2" failing.c nothing.bi
 told_of "an activation that used up its turns" 3 1 "not starved 3" failing.c nothing.bin --budget 3
 sed 's/w\[2\]/w[3]/' failing.c >behind.c
 told_of "one that misses an element behind poison" 2 0 "chain 2 none stream 2 position 3" behind.c nothing.bin
+{ head -n 9 failing.c; echo '}'; } >written.c
+for activation in 0 1; do
+    told_of "one that failed before an element that nobody writes" "$activation" 1 "not starved $activation" written.c nothing.bin
+done
+told_of "one that misses an element that nobody writes, behind poison" 2 0 "chain 2 none stream 2 position 2" written.c nothing.bin
 # 65,536 activations, each of which waits for the next one, and the last one for nobody.
 cat >column.c <<'END'
 int main(void) {
@@ -781,6 +812,16 @@ check "a name that begins with a dash" 0 04030201 "control done / output 4 of 4"
 run run -first.c in.bin
 check "a name that is read as an option" 2 "" usage
 
+for options in "--workers 64" "--budget=+0005 --control 2" "--workers=1 --"; do
+    # shellcheck disable=SC2086
+    run run $options "$top/examples/invert.c" in.bin
+    check "a block that is inverted, with $options" 0 fefdfcfb "control done / output 4 of 4"
+done
+{ cat first.c; head -c 262144 /dev/zero | tr '\0' ' '; } | head -c 262144 >longest.c
+run run longest.c in.bin
+check "the longest program" 0 04030201 "control done / output 4 of 4"
+run run "" in.bin
+check "a program without a name" 5 "" "read fault program"
 run run long.c in.bin
 check "a program that is too long" 4 "" "too long program"
 run run first.c long.bin

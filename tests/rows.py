@@ -4,7 +4,8 @@
 - refused.rows: each text is refused by `oscheck` and by `osrun run`, with its code in its line, and nothing is written.
 - lawful.rows: each text is accepted by `oscheck`.
 - runs.rows: each run comes to its output, report and status, with the number of workers that its options name, or else
-  with 1, 4 and 7."""
+  with 1, 4 and 7.
+- usage.rows: words that name no job, and no word, are answered with `usage`; no file that they name is there."""
 import os
 import re
 import subprocess
@@ -99,10 +100,17 @@ def run_all(counts):
             counts.add(" ".join([row["name"], *workers]), run("run", "program.c", "input", *options, *workers), wanted)
 
 
+def refuse_words(counts):
+    """Has each row of words answered where no file is there, so that none can have been read before the words were."""
+    for words in [[], [""], *[unfolded(line).split("|") for line in lines("usage.rows")]]:
+        counts.add("|".join(words), run(*words), (2, b"", "usage\n"))
+
+
 def main():
     counts = Counts()
     with tempfile.TemporaryDirectory() as work:
         os.chdir(work)
+        refuse_words(counts)
         judge(counts)
         run_all(counts)
         os.chdir(TOP)

@@ -97,12 +97,3 @@ pub(super) fn call_through<R: Threads + Sync + AllocGlobal, G: Gate>(
         report: Vec::from_slice(alloc, report.bytes())?,
     })
 }
-
-/// Runs a program over an input.
-pub(super) fn call_run<R: Threads + Sync + AllocGlobal>(
-    rt: &R,
-    program: &[u8],
-    input: &[u8],
-) -> Result<Left, Fail> {
-    call(rt, &["run", "p.c", "in"], program, input, None, ALL, ALL)
-}

@@ -1,11 +1,23 @@
 //! Outputs and reports that don't take all: the status is 6, and what was taken is a front.
 
-use super::calls::{ALL, Taking, call, failing};
+use super::calls::{ALL, Taking, call, call_through, failing, files_of};
+use super::has_left;
 use kernels::INVERT;
+use osrun_core::NoGate;
+use std::process::Abort;
 use std::test::Fail;
+use std::thread::Threads;
 
-/// How output and report take, and how many bytes each took, with the status.
-type Delivery = (Taking, Taking, usize, usize, u8);
+const WORDS: [&str; 3] = ["run", "p.c", "in"];
+
+const INPUT: [u8; 8] = [0, 1, 2, 3, 252, 253, 254, 255];
+
+const OUTPUT: [u8; 8] = [255, 254, 253, 252, 3, 2, 1, 0];
+
+const REPORT: &str = "control done\noutput 8 of 8\n";
+
+/// The lines of `gen 1 2`.
+const LINES: &str = "seed 1 blocks 2\ninput 8 sum 1363\noutput 8 sum 1172\nstatus 0\n";
 
 /// Takes so many bytes in all.
 fn narrow(room: u32) -> Taking {
@@ -16,6 +28,22 @@ fn narrow(room: u32) -> Taking {
     }
 }
 
+/// Asks that so many bytes of the output and of the report are taken where the blocks of 4 are inverted over sinks that take so.
+fn delivers<R: Threads + Sync + AllocGlobal + Abort>(
+    rt: &R,
+    takings: (Taking, Taking),
+    bytes: usize,
+    lines: usize,
+    status: u8,
+) -> Result<(), Fail> {
+    let (out, told) = takings;
+    let left = call(rt, &WORDS, INVERT.as_bytes(), &INPUT, None, out, told)?;
+    assert!(rt; left.status == status);
+    assert!(rt; OUTPUT.as_slice().get(..bytes) == Some(left.out.as_slice()));
+    assert!(rt; REPORT.as_bytes().get(..lines) == Some(left.report.as_slice()));
+    Ok(())
+}
+
 #[test]
 fn what_was_taken_is_a_front(rt: HostRuntime) -> Result<(), Fail> {
     let slow = Taking {
@@ -23,42 +51,83 @@ fn what_was_taken_is_a_front(rt: HostRuntime) -> Result<(), Fail> {
         most: 1,
         failing: None,
     };
-    let output = [255, 254, 253, 252, 3, 2, 1, 0];
-    let report = "control done\noutput 8 of 8\n";
-    let cases: [Delivery; 11] = [
+    for (out, told, bytes, lines, status) in [
         (slow, slow, 8, 27, 0),
         (failing(3, 0), ALL, 0, 0, 6),
         (failing(3, 1), ALL, 3, 0, 6),
-        (failing(1, 3), ALL, 3, 0, 6),
         (narrow(5), ALL, 5, 0, 6),
         (narrow(0), ALL, 0, 0, 6),
         (ALL, failing(64, 0), 8, 0, 6),
         (ALL, failing(3, 1), 8, 3, 6),
-        (ALL, failing(1, 26), 8, 26, 6),
         (ALL, narrow(3), 8, 3, 6),
         (ALL, narrow(13), 8, 13, 6),
-    ];
-    for (out, told, bytes, lines, status) in cases {
-        let words = ["run", "p.c", "in"];
-        let input = [0, 1, 2, 3, 252, 253, 254, 255];
-        let left = call(&rt, &words, INVERT.as_bytes(), &input, None, out, told)?;
-        assert_eq!(rt; left.status, status);
-        assert_eq!(rt; left.out.len(), bytes);
-        assert!(rt; output.as_slice().starts_with(left.out.as_slice()));
-        assert_eq!(rt; left.report.len(), lines);
-        assert!(rt; report.as_bytes().starts_with(left.report.as_slice()));
+    ] {
+        delivers(&rt, (out, told), bytes, lines, status)?;
+    }
+    for taken in 0..8 {
+        delivers(&rt, (failing(1, taken as u64), ALL), taken, 0, 6)?;
+    }
+    for taken in 0..27 {
+        delivers(&rt, (ALL, failing(1, taken as u64)), 8, taken, 6)?;
     }
     Ok(())
 }
 
 #[test]
-fn an_empty_output_is_delivered_where_nothing_is_taken(rt: HostRuntime) -> Result<(), Fail> {
-    let words = ["run", "p.c", "in"];
-    let left = call(&rt, &words, INVERT.as_bytes(), &[], None, narrow(0), ALL)?;
-    assert_eq!(rt; left.status, 0);
-    assert_eq!(rt;
-        left.report.as_slice(),
-        b"control done\noutput 0 of 0\n".as_slice()
-    );
+fn what_an_output_takes_of_lines_is_a_front(rt: HostRuntime) -> Result<(), Fail> {
+    for (out, taken) in [
+        (narrow(0), 0),
+        (narrow(5), 5),
+        (narrow(59), 59),
+        (failing(64, 0), 0),
+        (failing(3, 1), 3),
+        (failing(1, 16), 16),
+    ] {
+        let left = call(&rt, &["gen", "1", "2"], &[], &[], None, out, ALL)?;
+        has_left(&rt, &left, &LINES.as_bytes()[..taken], "", 6)?;
+    }
     Ok(())
+}
+
+/// The first of 5,000 activations waits for the last.
+const ACROSS: &str = r"int main(void) {
+    int s __attribute__((stream));
+    int i, x, y;
+    #pragma omp tick(s >> 4998)
+    #pragma omp task input(s >> x) output(osout << y)
+    y = x & 255;
+    for (i = 0; i < 4999; i++) {
+        #pragma omp task output(s << x)
+        x = i;
+    }
+}
+";
+
+/// A long run is cut at its first byte, words are refused where nobody can be told, and an empty output is delivered where nothing is
+/// taken.
+#[test]
+fn nothing_is_taken(rt: HostRuntime) -> Result<(), Fail> {
+    let invert = INVERT.as_bytes();
+    let left = call(
+        &rt,
+        &WORDS,
+        ACROSS.as_bytes(),
+        &[],
+        None,
+        failing(64, 0),
+        ALL,
+    )?;
+    has_left(&rt, &left, &[], "", 6)?;
+    let left = call(&rt, &[], &[], &[], Some(0), ALL, failing(64, 0))?;
+    has_left(&rt, &left, &[], "", 2)?;
+    let left = call(&rt, &WORDS, invert, &[], None, narrow(0), ALL)?;
+    has_left(&rt, &left, &[], "control done\noutput 0 of 0\n", 0)
+}
+
+#[test]
+fn files_that_give_a_byte_a_call_are_read_whole(rt: HostRuntime) -> Result<(), Fail> {
+    let mut files = files_of(rt.alloc(), INVERT.as_bytes(), &INPUT)?;
+    files.most(1);
+    let left = call_through(&rt, &WORDS, files, ALL, ALL, &NoGate)?;
+    has_left(&rt, &left, &OUTPUT, REPORT, 0)
 }
