@@ -2,7 +2,7 @@
 //!
 //! There is nothing here but tests. Each takes a table of whole texts and compares the answer with the one that the
 //! rules of the language give, found by hand: the tokens, the tree, what each name means, what each task captures. That
-//! texts are refused by their code and line is shown by `tests/rows`, on the built programs; one text a rule stands here.
+//! texts are refused by their code and line is shown by `tests/rows`, on the built programs.
 #![tactic(auto)]
 
 #[cfg(test)]
@@ -13,8 +13,6 @@ mod judge;
 mod kernel_texts;
 #[cfg(test)]
 mod names;
-#[cfg(test)]
-mod refusals;
 #[cfg(test)]
 mod syntax;
 #[cfg(test)]
