@@ -23,18 +23,16 @@ rows() {
         line = $0
         if (goes_on) sub(/^ +/, "", line)
         goes_on = sub(/\\$/, "", line)
-        text = text line (goes_on ? "" : " ")
-    }
-    END {
-        while (match(text, /\( *"[^"]*", *-?[0-9]+,? *\)/)) {
-            row = substr(text, RSTART, RLENGTH)
-            text = substr(text, RSTART + RLENGTH)
-            split(row, part, "\"")
-            value = part[3]
-            gsub(/[^-0-9]/, "", value)
-            body = part[2] ~ /;/ ? part[2] : "y = " part[2] ";"
-            printf "{ int y = 0; { %s } compare(\"%s\", y, %sL); }\n", body, part[2], value
+        row = row line
+        if (goes_on) next
+        sub(/^pub const [A-Z]+: &str = "/, "", row)
+        sub(/";$/, "", row)
+        if (match(row, / => -?[0-9]+$/)) {
+            part = substr(row, 1, RSTART - 1)
+            body = part ~ /;/ ? part : "y = " part ";"
+            printf "{ int y = 0; { %s } compare(\"%s\", y, %sL); }\n", body, part, substr(row, RSTART + 4)
         }
+        row = ""
     }' "${tables[@]}"
 }
 

@@ -6,10 +6,10 @@ ghost use Rattle.os_code.specs.Tasks.{Fits};
 
 use crate::beside::{bodies_beside, control_beside, whole_beside};
 use crate::compiled::{Compiled, compile};
-use crate::programs::{BRANCHES, CAPTURES, CLAUSES, HIDING, OUTPUTS, SIZES, TICKS, TRAPS, WINDOWS};
+use crate::programs::PROGRAMS;
 use control_run::run_control;
 use flow_core_laws::Control;
-use meaning_tests::case::{Case, Run};
+use meaning_tests::case::number;
 use meaning_tests::counted::{COUNTED, Counted};
 use meaning_tests::flows::FLOWS;
 use meaning_tests::programs::PROGRAMS as WORKED;
@@ -22,106 +22,56 @@ const MOST: u64 = 1_000_000_000;
 /// The longest input.
 const LONGEST: u32 = 4_194_304;
 
-/// A run of a control program, with what it makes.
+/// What the control program of a run's row makes.
 fn run_beside(
     rt: &impl Abort,
     alloc: Global,
     compiled: &Compiled,
-    run: &Run,
+    run: &str,
 ) -> Result<Control, Fail>
     ensures fit { IfOk result (λ control. All (Fits (parts_of compiled.now.code)) control.activations) }
 {
-    let (input_len, budget, _) = *run;
     control_beside(
         rt,
         alloc,
         compiled,
-        input_len.min(LONGEST),
-        budget.min(MOST),
+        number(run, 1).min(LONGEST),
+        u64::from(number(run, 2)).min(MOST),
     )
 }
 
-/// Runs of a control program, and the bodies of the first.
-fn runs_beside(
-    rt: &impl Abort,
-    alloc: Global,
-    compiled: &Compiled,
-    runs: &[Run],
-) -> Result<(), Fail> {
-    for run in runs {
-        run_beside(rt, alloc, compiled, run)?;
-    }
-    let Some(first) = runs.first() else {
-        return Ok(());
-    };
-    let control = run_beside(rt, alloc, compiled, first)?;
-    bodies_beside(rt, alloc, compiled, &control)
-}
-
 /// The runs of a case, and the bodies of the first.
-fn case_beside(rt: &impl Abort, alloc: Global, case: &Case) -> Result<(), Fail> {
-    let (text, runs, _) = *case;
+fn case_beside(rt: &impl Abort, alloc: Global, case: &str) -> Result<(), Fail> {
+    let Some((text, rows)) = case.split_once("----\n") else {
+        return Err(Fail::from("a program with rows"));
+    };
     let compiled = compile(rt, alloc, text)?;
-    runs_beside(rt, alloc, &compiled, runs)
-}
-
-/// Each case of a table.
-fn cases_beside(rt: &impl Abort, alloc: Global, cases: &[Case]) -> Result<(), Fail> {
-    for case in cases {
-        case_beside(rt, alloc, case)?;
+    for row in rows.lines() {
+        if row.starts_with("run ") {
+            run_beside(rt, alloc, &compiled, row)?;
+        }
     }
-    Ok(())
+    let control = run_beside(rt, alloc, &compiled, rows)?;
+    bodies_beside(rt, alloc, &compiled, &control)
 }
 
 #[test]
 fn worked_programs_run_as_they_mean(rt: HostRuntime) -> Result<(), Fail> {
-    cases_beside(&rt, rt.alloc(), &WORKED)?;
-    cases_beside(&rt, rt.alloc(), &FLOWS)
-}
-
-/// Control programs and their bodies end as they mean, round the budgets that just suffice; a budget of 0 is among them.
-fn programs_beside(rt: &impl Abort, alloc: Global, texts: &[&str]) -> Result<(), Fail> {
-    for text in texts {
-        whole_beside(rt, alloc, *text, 5)?;
+    for table in [WORKED, FLOWS] {
+        for case in table.split("====\n") {
+            case_beside(&rt, rt.alloc(), case)?;
+        }
     }
     Ok(())
 }
 
+/// Control programs and their bodies end as they mean, round the budgets that just suffice; a budget of 0 is among them.
 #[test]
-fn ticks_skip_on_the_streams_of_an_array(rt: HostRuntime) -> Result<(), Fail> {
-    programs_beside(&rt, rt.alloc(), &TICKS)
-}
-
-#[test]
-fn scalars_are_captured_as_they_are_at_each_pragma(rt: HostRuntime) -> Result<(), Fail> {
-    programs_beside(&rt, rt.alloc(), &CAPTURES)
-}
-
-#[test]
-fn windows_are_declared_anew_and_in_scopes_inside_one_another(rt: HostRuntime) -> Result<(), Fail> {
-    programs_beside(&rt, rt.alloc(), &WINDOWS)
-}
-
-#[test]
-fn control_programs_trap_as_they_mean(rt: HostRuntime) -> Result<(), Fail> {
-    programs_beside(&rt, rt.alloc(), &SIZES)?;
-    programs_beside(&rt, rt.alloc(), &TRAPS)
-}
-
-#[test]
-fn control_goes_as_it_means(rt: HostRuntime) -> Result<(), Fail> {
-    programs_beside(&rt, rt.alloc(), &BRANCHES)
-}
-
-#[test]
-fn clauses_and_sizes_are_evaluated_as_they_mean(rt: HostRuntime) -> Result<(), Fail> {
-    programs_beside(&rt, rt.alloc(), &CLAUSES)?;
-    programs_beside(&rt, rt.alloc(), &HIDING)
-}
-
-#[test]
-fn each_output_item_goes_out_as_it_means(rt: HostRuntime) -> Result<(), Fail> {
-    programs_beside(&rt, rt.alloc(), &OUTPUTS)
+fn control_programs_of_each_form_run_as_they_mean(rt: HostRuntime) -> Result<(), Fail> {
+    for text in PROGRAMS.split("====\n") {
+        whole_beside(&rt, rt.alloc(), text, 5)?;
+    }
+    Ok(())
 }
 
 /// A control program makes so many activations and ends so. The numbers were found by hand; `meaning_tests` holds what the

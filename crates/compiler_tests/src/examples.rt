@@ -467,29 +467,10 @@ fn lengths_beside(rt: &impl Abort, alloc: Global, texts: &[&str]) -> Result<(), 
 }
 
 #[test]
-fn kernels_run_as_they_mean(rt: HostRuntime) -> Result<(), Fail> {
-    lengths_beside(
-        &rt,
-        rt.alloc(),
-        &[INVERT, SMOOTH, LIFT, UNLIFT, PIPELINE, BROADCAST],
-    )
-}
-
-#[test]
-fn first_programs_run_as_they_mean(rt: HostRuntime) -> Result<(), Fail> {
-    lengths_beside(&rt, rt.alloc(), &[FIRST, OVERLAP, DIVIDE])
-}
-
-#[test]
-fn lossless_codecs_run_as_they_mean(rt: HostRuntime) -> Result<(), Fail> {
-    lengths_beside(
-        &rt,
-        rt.alloc(),
-        &[WAVELET, UNWAVELET, BANK, UNBANK, DELTA, UNDELTA],
-    )
-}
-
-#[test]
-fn lossy_codecs_run_as_they_mean(rt: HostRuntime) -> Result<(), Fail> {
-    lengths_beside(&rt, rt.alloc(), &[DCT, UNDCT, ADPCM, UNADPCM])
+fn kernels_and_examples_run_as_they_mean(rt: HostRuntime) -> Result<(), Fail> {
+    let kernels = [INVERT, SMOOTH, LIFT, UNLIFT, PIPELINE, BROADCAST];
+    lengths_beside(&rt, rt.alloc(), &kernels)?;
+    lengths_beside(&rt, rt.alloc(), &[FIRST, OVERLAP, DIVIDE, ADPCM, UNADPCM])?;
+    lengths_beside(&rt, rt.alloc(), &[WAVELET, UNWAVELET, BANK, UNBANK])?;
+    lengths_beside(&rt, rt.alloc(), &[DELTA, UNDELTA, DCT, UNDCT])
 }

@@ -19,12 +19,6 @@ fn choices_text(alloc: Global, count: u32) -> Result<String, Fail> {
     Ok(text)
 }
 
-#[test]
-fn a_long_chain_of_choices_is_gone_along(rt: HostRuntime) -> Result<(), Fail> {
-    let text = choices_text(rt.alloc(), 190)?;
-    whole_beside(&rt, rt.alloc(), text.as_str(), 0)
-}
-
 /// A task with eight items that captures so many scalars, all of which it names and changes.
 fn captures_text(alloc: Global, count: u32) -> Result<String, Fail> {
     let mut text = String::from_str(
@@ -48,8 +42,11 @@ fn captures_text(alloc: Global, count: u32) -> Result<String, Fail> {
     Ok(text)
 }
 
+/// A long chain of choices is gone along, and as many scalars and items as may be are taken.
 #[test]
-fn as_many_scalars_and_items_as_may_be_are_taken(rt: HostRuntime) -> Result<(), Fail> {
+fn long_tasks_run_as_they_mean(rt: HostRuntime) -> Result<(), Fail> {
+    let text = choices_text(rt.alloc(), 190)?;
+    whole_beside(&rt, rt.alloc(), text.as_str(), 0)?;
     let text = captures_text(rt.alloc(), 64)?;
     whole_beside(&rt, rt.alloc(), text.as_str(), 0)
 }
@@ -86,22 +83,27 @@ fn is_compiled_at_length(
     Ok(())
 }
 
-#[test]
-fn the_longest_chain_is_compiled(rt: HostRuntime) -> Result<(), Fail> {
-    let head = "int main(void) { int c, y; y = 1";
-    is_compiled_at_length(&rt, rt.alloc(), head, "+c*2-y", 43_677, "; }")
-}
+/// Chains, loops and tasks.
+const LONG: [(&str, &str, u32, &str); 3] = [
+    ("int main(void) { int c, y; y = 1", "+c*2-y", 43_677, "; }"),
+    (
+        "int main(void) { int x, y; ",
+        "while (x) { x--; if (y) continue; break; } ",
+        6_094,
+        "}",
+    ),
+    (
+        "int f(int a) { int b[2]; b[1] = a; return b[1]; } int main(void) { int y;\n",
+        "\n#pragma omp task output(osout << y)\ny = f(3);\n",
+        5_575,
+        "}",
+    ),
+];
 
 #[test]
-fn the_longest_list_of_loops_is_compiled(rt: HostRuntime) -> Result<(), Fail> {
-    let head = "int main(void) { int x, y; ";
-    let piece = "while (x) { x--; if (y) continue; break; } ";
-    is_compiled_at_length(&rt, rt.alloc(), head, piece, 6_094, "}")
-}
-
-#[test]
-fn the_longest_list_of_tasks_is_compiled(rt: HostRuntime) -> Result<(), Fail> {
-    let head = "int f(int a) { int b[2]; b[1] = a; return b[1]; } int main(void) { int y;\n";
-    let piece = "\n#pragma omp task output(osout << y)\ny = f(3);\n";
-    is_compiled_at_length(&rt, rt.alloc(), head, piece, 5_575, "}")
+fn the_longest_lists_are_compiled(rt: HostRuntime) -> Result<(), Fail> {
+    for (head, piece, count, tail) in &LONG {
+        is_compiled_at_length(&rt, rt.alloc(), *head, *piece, *count, *tail)?;
+    }
+    Ok(())
 }

@@ -30,6 +30,4 @@ mod operators;
 #[cfg(test)]
 mod programs;
 #[cfg(test)]
-mod rows;
-#[cfg(test)]
 mod statements;

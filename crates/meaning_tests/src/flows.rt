@@ -1,10 +1,6 @@
 //! How activations claim streams: overlap, peek, ticks, and where the control program ends.
 
-use crate::case::Case;
-
-pub const FLOWS: [Case; 18] = [
-    (
-        "int main(void) {
+pub const FLOWS: &str = r"int main(void) {
     int s __attribute__((stream));
     int i;
     for (i = 0; i < 2; i++) {
@@ -17,20 +13,13 @@ pub const FLOWS: [Case; 18] = [
         { int k; for (k = 0; k < 3; k++) o[k] = w[k]; }
     }
 }
-",
-        &[(
-            0,
-            3,
-            "0 [0] w 2 2; 1 [0] w 2 1; 2 [] r 2 3 3 s 0, w 1 3; 0 [1] w 2 2; 1 [1] w 2 1; 2 [] r 2 3 3 s 0, w 1 3; Done",
-        )],
-        &[
-            (3, &[], 0, "Done 10 11"),
-            (4, &[], 0, "Done 12"),
-            (5, &[10, 11, 12], 4, "Done 10 11 12"),
-        ],
-    ),
-    (
-        "int main(void) {
+----
+run 0 3 = 0 [0] w 2 2; 1 [0] w 2 1; 2 [] r 2 3 3 s 0, w 1 3; 0 [1] w 2 2; 1 [1] w 2 1; 2 [] r 2 3 3 s 0, w 1 3; Done
+body 3 0 = Done 10 11
+body 4 0 = Done 12
+body 5 4 10 11 12 = Done 10 11 12
+====
+int main(void) {
     int w[1], x, y;
     #pragma omp task input(osin >> w[0]) output(osout << y)
     y = w[0];
@@ -40,64 +29,45 @@ pub const FLOWS: [Case; 18] = [
     #pragma omp task input(osin >> x) output(osout << y)
     y = x;
 }
-",
-        &[
-            (
-                2,
-                1,
-                "0 [] r 0 1 0 s 0, w 1 1; 1 [] r 0 1 0 s 0, w 1 1; 2 [] r 0 1 1 s 1, w 1 1; Done",
-            ),
-            (
-                2,
-                0,
-                "0 [] r 0 1 0 s 0, w 1 1; 1 [] r 0 1 0 s 0, w 1 1; over budget",
-            ),
-        ],
-        &[(0, &[5], 0, "Done 5")],
-    ),
-    (
-        "int main(void) {
+----
+run 2 1 = 0 [] r 0 1 0 s 0, w 1 1; 1 [] r 0 1 0 s 0, w 1 1; 2 [] r 0 1 1 s 1, w 1 1; Done
+run 2 0 = 0 [] r 0 1 0 s 0, w 1 1; 1 [] r 0 1 0 s 0, w 1 1; over budget
+body 0 0 5 = Done 5
+====
+int main(void) {
     int i, y;
     for (i = 0; i < 70000; i++) {
         #pragma omp task output(osout << y)
         y = i & 255;
     }
 }
-",
-        &[(0, 3, "0 [0] w 1 1; 0 [1] w 1 1; 0 [2] w 1 1; over budget")],
-        &[],
-    ),
-    (
-        "int main(void) {
+----
+run 0 3 = 0 [0] w 1 1; 0 [1] w 1 1; 0 [2] w 1 1; over budget
+====
+int main(void) {
 int n = 0;
 int w[n];
 }
-",
-        &[(0, 9, "trapped 6 line 3")],
-        &[],
-    ),
-    (
-        "int main(void) {
+----
+run 0 9 = trapped 6 line 3
+====
+int main(void) {
 int w[4];
 #pragma omp task input(osin >> w[65537])
 ;
 }
-",
-        &[(0, 9, "trapped 7 line 3")],
-        &[],
-    ),
-    (
-        "int main(void) {
+----
+run 0 9 = trapped 7 line 3
+====
+int main(void) {
 int w[4];
 #pragma omp task output(osout << w[3])
 w[0] = 1;
 }
-",
-        &[(0, 9, "trapped 8 line 3")],
-        &[],
-    ),
-    (
-        "int main(void) {
+----
+run 0 9 = trapped 8 line 3
+====
+int main(void) {
     int i;
     for (i = 0; i + 2 < osin_len; i++) {
         int w[3], y;
@@ -106,23 +76,13 @@ w[0] = 1;
     }
     return 0;
 }
-",
-        &[
-            (
-                4,
-                3,
-                "0 [] r 0 3 1 s 0, w 1 1; 0 [] r 0 3 1 s 0, w 1 1; Done",
-            ),
-            (
-                4,
-                2,
-                "0 [] r 0 3 1 s 0, w 1 1; 0 [] r 0 3 1 s 0, w 1 1; over budget",
-            ),
-        ],
-        &[(0, &[3, 6, 9], 0, "Done 6"), (1, &[6, 9, 12], 0, "Done 9")],
-    ),
-    (
-        "int main(void) {
+----
+run 4 3 = 0 [] r 0 3 1 s 0, w 1 1; 0 [] r 0 3 1 s 0, w 1 1; Done
+run 4 2 = 0 [] r 0 3 1 s 0, w 1 1; 0 [] r 0 3 1 s 0, w 1 1; over budget
+body 0 0 3 6 9 = Done 6
+body 1 0 6 9 12 = Done 9
+====
+int main(void) {
     int s __attribute__((stream));
     int x, y;
     #pragma omp task input(s >> x) output(osout << y)
@@ -130,12 +90,12 @@ w[0] = 1;
     #pragma omp task output(s << x)
     x = 41;
 }
-",
-        &[(0, 0, "0 [] r 2 1 1 s 0, w 1 1; 1 [] w 2 1; Done")],
-        &[(0, &[41], 0, "Done 42"), (1, &[], 0, "Done 41")],
-    ),
-    (
-        "int main(void) {
+----
+run 0 0 = 0 [] r 2 1 1 s 0, w 1 1; 1 [] w 2 1; Done
+body 0 0 41 = Done 42
+body 1 0 = Done 41
+====
+int main(void) {
     int s __attribute__((stream)), t __attribute__((stream));
     int x, y;
     #pragma omp task input(s >> x) output(t << y)
@@ -145,16 +105,11 @@ w[0] = 1;
     #pragma omp task input(s >> x) output(s << y)
     y = x;
 }
-",
-        &[(
-            0,
-            0,
-            "0 [] r 2 1 1 s 0, w 3 1; 1 [] r 3 1 1 s 0, w 2 1; 2 [] r 2 1 1 s 0, w 2 1; Done",
-        )],
-        &[(2, &[7], 0, "Done 7")],
-    ),
-    (
-        "int main(void) {
+----
+run 0 0 = 0 [] r 2 1 1 s 0, w 3 1; 1 [] r 3 1 1 s 0, w 2 1; 2 [] r 2 1 1 s 0, w 2 1; Done
+body 2 0 7 = Done 7
+====
+int main(void) {
     int i;
     for (i = 0; i < 2; i++) {
         int w[1], y;
@@ -162,16 +117,12 @@ w[0] = 1;
         y = w[0];
     }
 }
-",
-        &[(
-            4,
-            3,
-            "0 [] r 0 1 3 s 0, w 1 1; 0 [] r 0 1 3 s 0, w 1 1; Done",
-        )],
-        &[(0, &[1], 0, "Done 1"), (1, &[4], 0, "Done 4")],
-    ),
-    (
-        "int main(void) {
+----
+run 4 3 = 0 [] r 0 1 3 s 0, w 1 1; 0 [] r 0 1 3 s 0, w 1 1; Done
+body 0 0 1 = Done 1
+body 1 0 4 = Done 4
+====
+int main(void) {
     int i;
     for (i = 0; i < osin_len; i++) {
         int x, y;
@@ -179,20 +130,13 @@ w[0] = 1;
         y = 100 / x;
     }
 }
-",
-        &[(
-            3,
-            4,
-            "0 [] r 0 1 1 s 0, w 1 1; 0 [] r 0 1 1 s 0, w 1 1; 0 [] r 0 1 1 s 0, w 1 1; Done",
-        )],
-        &[
-            (0, &[2], 0, "Done 50"),
-            (1, &[0], 0, "trapped 2 line 6"),
-            (2, &[5], 0, "Done 20"),
-        ],
-    ),
-    (
-        "int main(void) {
+----
+run 3 4 = 0 [] r 0 1 1 s 0, w 1 1; 0 [] r 0 1 1 s 0, w 1 1; 0 [] r 0 1 1 s 0, w 1 1; Done
+body 0 0 2 = Done 50
+body 1 0 0 = trapped 2 line 6
+body 2 0 5 = Done 20
+====
+int main(void) {
     int y;
     #pragma omp task output(osout << y)
     y = 0 && 1 / 0;
@@ -201,38 +145,35 @@ w[0] = 1;
     #pragma omp task output(osout << y)
     y = (-2147483647 - 1) / -1;
 }
-",
-        &[(0, 0, "0 [] w 1 1; 1 [] w 1 1; 2 [] w 1 1; Done")],
-        &[
-            (0, &[], 0, "Done 0"),
-            (1, &[], 0, "trapped 1 line 6"),
-            (2, &[], 0, "trapped 1 line 8"),
-        ],
-    ),
-    (
-        "int main(void) {
+----
+run 0 0 = 0 [] w 1 1; 1 [] w 1 1; 2 [] w 1 1; Done
+body 0 0 = Done 0
+body 1 0 = trapped 1 line 6
+body 2 0 = trapped 1 line 8
+====
+int main(void) {
     int y;
     #pragma omp task output(osout << y)
     { int k; for (k = 0; k < 5; k++) y = k; }
 }
-",
-        &[(0, 0, "0 [] w 1 1; Done")],
-        &[(0, &[], 5, "over budget"), (0, &[], 6, "Done 4")],
-    ),
-    (
-        "int main(void) {
+----
+run 0 0 = 0 [] w 1 1; Done
+body 0 5 = over budget
+body 0 6 = Done 4
+====
+int main(void) {
     int y;
     #pragma omp task output(osout << y)
     y = 255;
     #pragma omp task output(osout << y)
     y = 256;
 }
-",
-        &[(0, 0, "0 [] w 1 1; 1 [] w 1 1; Done")],
-        &[(0, &[], 0, "Done 255"), (1, &[], 0, "trapped 5 line 5")],
-    ),
-    (
-        "int main(void) {
+----
+run 0 0 = 0 [] w 1 1; 1 [] w 1 1; Done
+body 0 0 = Done 255
+body 1 0 = trapped 5 line 5
+====
+int main(void) {
     int s __attribute__((stream));
     int w[4], x, y;
     #pragma omp task input(osin >> w[4]) output(s << x)
@@ -240,26 +181,19 @@ w[0] = 1;
     #pragma omp task input(s >> x) output(osout << y)
     y = x;
 }
-",
-        &[(
-            2,
-            0,
-            "0 [] r 0 4 4 s 0, w 2 1; 1 [] r 2 1 1 s 0, w 1 1; Done",
-        )],
-        &[(0, &[1, 2, 3, 4], 0, "Done 4")],
-    ),
-    (
-        "int main(void) {
+----
+run 2 0 = 0 [] r 0 4 4 s 0, w 2 1; 1 [] r 2 1 1 s 0, w 1 1; Done
+body 0 0 1 2 3 4 = Done 4
+====
+int main(void) {
     int n = 65536;
     int a[n], b
     [n + 1];
 }
-",
-        &[(0, 0, "trapped 6 line 4")],
-        &[],
-    ),
-    (
-        "int main(void) {
+----
+run 0 0 = trapped 6 line 4
+====
+int main(void) {
     int s __attribute__((stream)), t __attribute__((stream));
     int x;
     #pragma omp tick(t >> 65536)
@@ -270,17 +204,11 @@ w[0] = 1;
     #pragma omp task input(s >> x)
     ;
 }
-",
-        &[
-            (0, 3, "0 [] r 2 1 1 s 3; 1 [] r 2 1 1 s 0; Done"),
-            (0, 2, "over budget"),
-        ],
-        &[],
-    ),
-    (
-        "int main(void) { }
-",
-        &[(0, 0, "Done")],
-        &[],
-    ),
-];
+----
+run 0 3 = 0 [] r 2 1 1 s 3; 1 [] r 2 1 1 s 0; Done
+run 0 2 = over budget
+====
+int main(void) { }
+----
+run 0 0 = Done
+";

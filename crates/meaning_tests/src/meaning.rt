@@ -3,7 +3,7 @@
 mod large;
 
 use crate::bodies::{BEFORE, BODIES};
-use crate::case::Case;
+use crate::case::{number, shown};
 use crate::flows::FLOWS;
 use crate::programs::PROGRAMS;
 use crate::{unsigned_values, values};
@@ -99,30 +99,70 @@ fn outcome(
     body_text(alloc, end, outputs.as_slice())
 }
 
-fn holds(rt: &impl Abort, alloc: Global, case: &Case) -> Result<(), Fail> {
-    let (text, runs, bodies) = *case;
-    let checked = accepted(alloc, text)?;
-    for (input_len, budget, shown) in runs {
-        let control = plain_control(alloc, &checked.program, *input_len, *budget)?;
-        let found = control_text(alloc, &control)?;
-        assert_eq!(rt; found.as_str(), *shown, "budget {budget} of {text}");
+/// What the control program of a run's row makes.
+fn control_of(alloc: Global, program: &Program, run: &str) -> Result<Control, Fail> {
+    let budget = u64::from(number(run, 2));
+    Ok(plain_control(alloc, program, number(run, 1), budget)?)
+}
+
+/// A run comes to what its row shows.
+fn run_holds(rt: &impl Abort, alloc: Global, program: &Program, run: &str) -> Result<(), Fail> {
+    let control = control_of(alloc, program, run)?;
+    let found = control_text(alloc, &control)?;
+    assert!(rt; found.as_str() == shown(run), "{run}");
+    Ok(())
+}
+
+/// The inputs of a body's row.
+fn inputs_of(alloc: Global, body: &str) -> Result<Vec<i32>, Fail> {
+    let mut inputs = Vec::new(alloc);
+    for word in body.split_whitespace().skip(3) {
+        if word == "=" {
+            break;
+        }
+        inputs.push(word.parse::<i32>().unwrap_or(0))?;
     }
-    let Some((input_len, budget, _)) = runs.first() else {
-        return Err(Fail::from("a run of the control program"));
+    Ok(inputs)
+}
+
+/// A body comes to what its row shows.
+fn body_holds(
+    rt: &impl Abort,
+    alloc: Global,
+    program: &Program,
+    control: &Control,
+    body: &str,
+) -> Result<(), Fail> {
+    let inputs = inputs_of(alloc, body)?;
+    let Some(activation) = control.activations.as_slice().get(number(body, 1) as usize) else {
+        return Err(Fail::from("an activation"));
     };
-    let control = plain_control(alloc, &checked.program, *input_len, *budget)?;
-    for (place, inputs, budget, shown) in bodies {
-        let Some(activation) = control.activations.as_slice().get(*place) else {
-            return Err(Fail::from("an activation"));
-        };
-        let found = outcome(alloc, &checked.program, activation, *inputs, *budget)?;
-        assert_eq!(rt;
-            found.as_str(),
-            *shown,
-            "body {place}, budget {budget} of {text}"
-        );
+    let budget = u64::from(number(body, 2));
+    let found = outcome(alloc, program, activation, inputs.as_slice(), budget)?;
+    assert!(rt; found.as_str() == shown(body), "{body}");
+    Ok(())
+}
+
+/// All rows of a program hold.
+fn rows_hold(rt: &impl Abort, alloc: Global, program: &Program, rows: &str) -> Result<(), Fail> {
+    let control = control_of(alloc, program, rows)?;
+    for row in rows.lines() {
+        if row.starts_with("run ") {
+            run_holds(rt, alloc, program, row)?;
+        } else {
+            body_holds(rt, alloc, program, &control, row)?;
+        }
     }
     Ok(())
+}
+
+/// A case holds.
+fn holds(rt: &impl Abort, alloc: Global, case: &str) -> Result<(), Fail> {
+    let Some((text, rows)) = case.split_once("----\n") else {
+        return Err(Fail::from("a program with rows"));
+    };
+    let checked = accepted(alloc, text)?;
+    rows_hold(rt, alloc, &checked.program, rows)
 }
 
 /// The outcome of the one activation of a program, which has no inputs.
@@ -137,85 +177,64 @@ fn outcome_of(alloc: Global, text: &str, budget: u64) -> Result<String, Fail> {
 
 #[test]
 fn programs_mean_what_was_worked_out_by_hand(rt: HostRuntime) -> Result<(), Fail> {
-    for case in &PROGRAMS {
-        holds(&rt, rt.alloc(), case)?;
+    for table in [PROGRAMS, FLOWS] {
+        for case in table.split("====\n") {
+            holds(&rt, rt.alloc(), case)?;
+        }
     }
-    for case in &FLOWS {
-        holds(&rt, rt.alloc(), case)?;
-    }
+    Ok(())
+}
+
+/// A body ends as its row shows.
+fn body_ends(rt: &impl Abort, alloc: Global, row: &str) -> Result<(), Fail> {
+    let Some((head, body)) = row.split_once("\n") else {
+        return Err(Fail::from("a row with a body"));
+    };
+    let text = format!(in alloc; "{BEFORE}{body}\n}}\n")?;
+    let found = outcome_of(alloc, text.as_str(), u64::from(number(head, 0)))?;
+    let wanted = head.split_once(" ").map(|(_, wanted)| wanted);
+    assert!(rt; Some(found.as_str()) == wanted, "{row}");
     Ok(())
 }
 
 #[test]
 fn bodies_end_as_was_worked_out_by_hand(rt: HostRuntime) -> Result<(), Fail> {
-    for (body, budget, shown) in &BODIES {
-        let text = format!(in rt.alloc(); "{BEFORE}{body}\n}}\n")?;
-        let found = outcome_of(rt.alloc(), text.as_str(), *budget)?;
-        assert_eq!(rt; found.as_str(), *shown, "budget {budget} of {body}");
+    for row in BODIES.split("\n\n") {
+        body_ends(&rt, rt.alloc(), row)?;
     }
     Ok(())
 }
 
-/// The rows of a table of expressions and bodies, which call its functions, have their values. A row whose first part has a `;` is
-/// a body; any other is an expression.
-fn have_values(
-    rt: &impl Abort,
-    alloc: Global,
-    functions: &str,
-    table: &[(&str, i32)],
-) -> Result<(), Fail> {
-    let before =
-        "int main(void) {\nint s __attribute__((stream)); int y;\n#pragma omp task output(s << y)\n";
-    for (part, value) in table {
-        let body = if part.find(";").is_some() {
-            format!(in alloc; "{part}")?
-        } else {
-            format!(in alloc; "y = {part};")?
-        };
-        let text = format!(in alloc; "{functions}{before}{{ {body} }}\n}}\n")?;
-        let found = outcome_of(alloc, text.as_str(), 5_000)?;
-        let shown = format!(in alloc; "Done {value}")?;
-        assert_eq!(rt; found.as_str(), shown.as_str(), "{part}");
+/// A row of a table of expressions and bodies, which call its functions, has its value.
+fn has_value(rt: &impl Abort, alloc: Global, functions: &str, row: &str) -> Result<(), Fail> {
+    let text = values::row_text(alloc, functions, row)?;
+    let found = outcome_of(alloc, text.as_str(), 5_000)?;
+    let value = row.split_once(" => ").map(|(_, value)| value);
+    assert!(rt; found.as_str().strip_prefix("Done ") == value, "{row}");
+    Ok(())
+}
+
+/// All rows of a table have their values.
+fn have_values(rt: &impl Abort, alloc: Global, functions: &str, table: &str) -> Result<(), Fail> {
+    for row in table.lines() {
+        if !row.starts_with("//") {
+            has_value(rt, alloc, functions, row)?;
+        }
     }
     Ok(())
 }
 
 #[test]
 fn expressions_and_bodies_have_the_values_of_c(rt: HostRuntime) -> Result<(), Fail> {
-    have_values(&rt, rt.alloc(), values::FUNCTIONS, &values::TABLE)
-}
-
-/// The rows of a table with the type `unsigned` have their values.
-fn have_unsigned_values(rt: &impl Abort, alloc: Global, table: &[(&str, i32)]) -> Result<(), Fail> {
-    have_values(rt, alloc, unsigned_values::FUNCTIONS, table)
+    have_values(&rt, rt.alloc(), values::FUNCTIONS, values::TABLE)
 }
 
 #[test]
-fn unsigned_operators_have_the_values_of_c(rt: HostRuntime) -> Result<(), Fail> {
-    have_unsigned_values(&rt, rt.alloc(), &unsigned_values::ARITHMETIC)
-}
-
-#[test]
-fn unsigned_shifts_and_bits_have_the_values_of_c(rt: HostRuntime) -> Result<(), Fail> {
-    have_unsigned_values(&rt, rt.alloc(), &unsigned_values::BITS)
-}
-
-#[test]
-fn unsigned_comparisons_have_the_values_of_c(rt: HostRuntime) -> Result<(), Fail> {
-    have_unsigned_values(&rt, rt.alloc(), &unsigned_values::COMPARISONS)
-}
-
-#[test]
-fn operators_of_both_types_have_the_values_of_c(rt: HostRuntime) -> Result<(), Fail> {
-    have_unsigned_values(&rt, rt.alloc(), &unsigned_values::MIXED)
-}
-
-#[test]
-fn unsigned_operators_group_as_in_c(rt: HostRuntime) -> Result<(), Fail> {
-    have_unsigned_values(&rt, rt.alloc(), &unsigned_values::GROUPED)
-}
-
-#[test]
-fn unsigned_bodies_have_the_values_of_c(rt: HostRuntime) -> Result<(), Fail> {
-    have_unsigned_values(&rt, rt.alloc(), &unsigned_values::BODIES)
+fn expressions_and_bodies_of_unsigned_have_the_values_of_c(rt: HostRuntime) -> Result<(), Fail> {
+    have_values(
+        &rt,
+        rt.alloc(),
+        unsigned_values::FUNCTIONS,
+        unsigned_values::TABLE,
+    )
 }

@@ -1,10 +1,6 @@
-//! Programs whose control programs and bodies were worked out by hand.
+//! Programs whose control programs and bodies were worked out by hand, as `case` says.
 
-use crate::case::Case;
-
-pub const PROGRAMS: [Case; 40] = [
-    (
-        "int main(void) {
+pub const PROGRAMS: &str = r"int main(void) {
     int y;
     #pragma omp task output(osout << y)
     y = (1 / 0)
@@ -17,16 +13,13 @@ pub const PROGRAMS: [Case; 40] = [
       + 2147483647
       - 1 / 0;
 }
-",
-        &[(0, 0, "0 [] w 1 1; 1 [] w 1 1; 2 [] w 1 1; Done")],
-        &[
-            (0, &[], 9, "trapped 2 line 4"),
-            (1, &[], 9, "trapped 1 line 7"),
-            (2, &[], 9, "trapped 1 line 11"),
-        ],
-    ),
-    (
-        "int main(void) {
+----
+run 0 0 = 0 [] w 1 1; 1 [] w 1 1; 2 [] w 1 1; Done
+body 0 9 = trapped 2 line 4
+body 1 9 = trapped 1 line 7
+body 2 9 = trapped 1 line 11
+====
+int main(void) {
     int y;
     #pragma omp task output(osout << y)
     {
@@ -49,16 +42,13 @@ pub const PROGRAMS: [Case; 40] = [
           ++;
     }
 }
-",
-        &[(0, 0, "0 [] w 1 1; 1 [] w 1 1; 2 [] w 1 1; Done")],
-        &[
-            (0, &[], 9, "trapped 4 line 6"),
-            (1, &[], 9, "trapped 2 line 12"),
-            (2, &[], 9, "trapped 1 line 21"),
-        ],
-    ),
-    (
-        "int main(void) {
+----
+run 0 0 = 0 [] w 1 1; 1 [] w 1 1; 2 [] w 1 1; Done
+body 0 9 = trapped 4 line 6
+body 1 9 = trapped 2 line 12
+body 2 9 = trapped 1 line 21
+====
+int main(void) {
     int n = 2;
     int w[n + 1], o[1];
     #pragma omp task input(osin >> w[1]) output(osout << o[1])
@@ -67,20 +57,13 @@ pub const PROGRAMS: [Case; 40] = [
     o[w[0]]
       = w[0 - 1];
 }
-",
-        &[(
-            9,
-            0,
-            "0 [] r 0 3 1 s 0, w 1 1; 1 [] r 0 3 0 s 0, w 1 1; Done",
-        )],
-        &[
-            (0, &[7, 8, 9], 0, "Done 9"),
-            (1, &[1, 5, 6], 0, "trapped 4 line 7"),
-            (1, &[0, 5, 6], 0, "trapped 4 line 8"),
-        ],
-    ),
-    (
-        "int main(void) {
+----
+run 9 0 = 0 [] r 0 3 1 s 0, w 1 1; 1 [] r 0 3 0 s 0, w 1 1; Done
+body 0 0 7 8 9 = Done 9
+body 1 0 1 5 6 = trapped 4 line 7
+body 1 0 0 5 6 = trapped 4 line 8
+====
+int main(void) {
     int x = x + 5, y;
     int i;
     for (i = 0; i < 2; i++) {
@@ -96,24 +79,15 @@ pub const PROGRAMS: [Case; 40] = [
     #pragma omp task output(osout << y)
     y = x;
 }
-",
-        &[
-            (
-                0,
-                3,
-                "0 [0 1 0] w 1 1; 0 [1 1 0] w 1 1; 1 [] w 1 1; 2 [5] w 1 1; Done",
-            ),
-            (0, 2, "0 [0 1 0] w 1 1; 0 [1 1 0] w 1 1; over budget"),
-        ],
-        &[
-            (0, &[], 0, "Done 100"),
-            (1, &[], 0, "Done 101"),
-            (2, &[], 0, "Done 0"),
-            (3, &[], 0, "Done 5"),
-        ],
-    ),
-    (
-        "int main(void) {
+----
+run 0 3 = 0 [0 1 0] w 1 1; 0 [1 1 0] w 1 1; 1 [] w 1 1; 2 [5] w 1 1; Done
+run 0 2 = 0 [0 1 0] w 1 1; 0 [1 1 0] w 1 1; over budget
+body 0 0 = Done 100
+body 1 0 = Done 101
+body 2 0 = Done 0
+body 3 0 = Done 5
+====
+int main(void) {
     int i = 4, y;
     for (int i = i; i < 6; i++) {
         if (i == 1) continue;
@@ -124,24 +98,15 @@ pub const PROGRAMS: [Case; 40] = [
     #pragma omp task output(osout << y)
     y = i;
 }
-",
-        &[
-            (
-                0,
-                5,
-                "0 [0] w 1 1; 0 [2] w 1 1; 0 [3] w 1 1; 1 [4] w 1 1; Done",
-            ),
-            (0, 4, "0 [0] w 1 1; 0 [2] w 1 1; 0 [3] w 1 1; over budget"),
-        ],
-        &[
-            (0, &[], 0, "Done 0"),
-            (1, &[], 0, "Done 2"),
-            (2, &[], 0, "Done 3"),
-            (3, &[], 0, "Done 4"),
-        ],
-    ),
-    (
-        "int main(void) {
+----
+run 0 5 = 0 [0] w 1 1; 0 [2] w 1 1; 0 [3] w 1 1; 1 [4] w 1 1; Done
+run 0 4 = 0 [0] w 1 1; 0 [2] w 1 1; 0 [3] w 1 1; over budget
+body 0 0 = Done 0
+body 1 0 = Done 2
+body 2 0 = Done 3
+body 3 0 = Done 4
+====
+int main(void) {
     int i = 1, y;
     while (
         1 / i) {
@@ -150,16 +115,13 @@ pub const PROGRAMS: [Case; 40] = [
         i--;
     }
 }
-",
-        &[
-            (0, 1, "0 [1] w 1 1; over budget"),
-            (0, 2, "0 [1] w 1 1; trapped 2 line 4"),
-            (0, 0, "over budget"),
-        ],
-        &[(0, &[], 0, "Done 3")],
-    ),
-    (
-        "int main(void) {
+----
+run 0 1 = 0 [1] w 1 1; over budget
+run 0 2 = 0 [1] w 1 1; trapped 2 line 4
+run 0 0 = over budget
+body 0 0 = Done 3
+====
+int main(void) {
     int y, i = 0;
     for (;;) {
         if (i == 2) return 1 / (i - 2);
@@ -168,16 +130,14 @@ pub const PROGRAMS: [Case; 40] = [
         i += 1;
     }
 }
-",
-        &[
-            (0, 3, "0 [0] w 1 1; 0 [1] w 1 1; trapped 2 line 4"),
-            (0, 2, "0 [0] w 1 1; 0 [1] w 1 1; over budget"),
-            (0, 1, "0 [0] w 1 1; over budget"),
-        ],
-        &[(0, &[], 0, "Done 0"), (1, &[], 0, "Done 1")],
-    ),
-    (
-        "int main(void) {
+----
+run 0 3 = 0 [0] w 1 1; 0 [1] w 1 1; trapped 2 line 4
+run 0 2 = 0 [0] w 1 1; 0 [1] w 1 1; over budget
+run 0 1 = 0 [0] w 1 1; over budget
+body 0 0 = Done 0
+body 1 0 = Done 1
+====
+int main(void) {
     int i, j, y;
     for (i = 0; i < 3; i++)
         for (j = 0; j < 3; j++) {
@@ -188,23 +148,12 @@ pub const PROGRAMS: [Case; 40] = [
     #pragma omp task
     ;
 }
-",
-        &[
-            (
-                0,
-                9,
-                "0 [0 0] w 1 1; 0 [0 1] w 1 1; 0 [0 2] w 1 1; 0 [1 0] w 1 1; 0 [1 1] w 1 1; 0 [1 2] w 1 1; Done",
-            ),
-            (
-                0,
-                8,
-                "0 [0 0] w 1 1; 0 [0 1] w 1 1; 0 [0 2] w 1 1; 0 [1 0] w 1 1; 0 [1 1] w 1 1; over budget",
-            ),
-        ],
-        &[(5, &[], 0, "Done 12")],
-    ),
-    (
-        "const int K = -3;
+----
+run 0 9 = 0 [0 0] w 1 1; 0 [0 1] w 1 1; 0 [0 2] w 1 1; 0 [1 0] w 1 1; 0 [1 1] w 1 1; 0 [1 2] w 1 1; Done
+run 0 8 = 0 [0 0] w 1 1; 0 [0 1] w 1 1; 0 [0 2] w 1 1; 0 [1 0] w 1 1; 0 [1 1] w 1 1; over budget
+body 5 0 = Done 12
+====
+const int K = -3;
 int g(void) { }
 int h(int a, int b) { if (a) return b; }
 int main(void) {
@@ -214,21 +163,18 @@ int main(void) {
     #pragma omp task output(osout << y)
     y = h(g(), 5) + h(K, 5) * 10 + h(0, 7);
 }
-",
-        &[(0, 0, "0 [] w 1 1; 1 [] w 1 1; Done")],
-        &[
-            (0, &[], 0, "trapped 2 line 7"),
-            (1, &[], 4, "Done 50"),
-            (1, &[], 3, "over budget"),
-        ],
-    ),
-    (
-        "int main(void) {
+----
+run 0 0 = 0 [] w 1 1; 1 [] w 1 1; Done
+body 0 0 = trapped 2 line 7
+body 1 4 = Done 50
+body 1 3 = over budget
+====
+int main(void) {
     int s __attribute__((stream));
     int a, b, w[2];
     #pragma omp task output(s << a, osout << w[2])
     { a = 300; w[1] = 255; }
-    #pragma omp task \\
+    #pragma omp task \
         output(s << a) output(osout << b)
     { a = 1; b = -1; }
     #pragma omp task output(osout << b)
@@ -238,22 +184,15 @@ int main(void) {
     #pragma omp task output(osout << b)
     { b = 256; b = b - 1; }
 }
-",
-        &[(
-            0,
-            0,
-            "0 [] w 2 1, w 1 2; 1 [] w 2 1, w 1 1; 2 [] w 1 1; 3 [] w 1 1; 4 [] w 1 1; Done",
-        )],
-        &[
-            (0, &[], 0, "Done 300 0 255"),
-            (1, &[], 0, "trapped 5 line 6"),
-            (2, &[], 0, "trapped 2 line 10"),
-            (3, &[], 9, "over budget"),
-            (4, &[], 0, "Done 255"),
-        ],
-    ),
-    (
-        "const int N = 3;
+----
+run 0 0 = 0 [] w 2 1, w 1 2; 1 [] w 2 1, w 1 1; 2 [] w 1 1; 3 [] w 1 1; 4 [] w 1 1; Done
+body 0 0 = Done 300 0 255
+body 1 0 = trapped 5 line 6
+body 2 0 = trapped 2 line 10
+body 3 9 = over budget
+body 4 0 = Done 255
+====
+const int N = 3;
 int main(void) {
     int t __attribute__((stream)), s[N] __attribute__((stream)), u __attribute__((stream));
     int x, i, w[2];
@@ -264,23 +203,16 @@ int main(void) {
     #pragma omp tick(s[1] >> 4)
     #pragma omp task input(u, s[1] >> x, s[1] >> w[0]) output(t)
     t = u + x + w[0] + w[1];
-    #pragma omp task input(s[ \\
+    #pragma omp task input(s[ \
         3] >> w[99999])
     ;
 }
-",
-        &[
-            (
-                0,
-                5,
-                "0 [2] w 5 1; 0 [1] w 4 1; 0 [0] w 3 1; 1 [] r 6 1 1 s 0, r 4 1 1 s 4, r 4 2 0 s 0, w 2 1; trapped 4 line 12",
-            ),
-            (0, 4, "0 [2] w 5 1; 0 [1] w 4 1; 0 [0] w 3 1; over budget"),
-        ],
-        &[(3, &[10, 20, 30, 40], 0, "Done 100")],
-    ),
-    (
-        "int main(void) {
+----
+run 0 5 = 0 [2] w 5 1; 0 [1] w 4 1; 0 [0] w 3 1; 1 [] r 6 1 1 s 0, r 4 1 1 s 4, r 4 2 0 s 0, w 2 1; trapped 4 line 12
+run 0 4 = 0 [2] w 5 1; 0 [1] w 4 1; 0 [0] w 3 1; over budget
+body 3 0 10 20 30 40 = Done 100
+====
+int main(void) {
     int s __attribute__((stream));
     int x, y, w[4];
     #pragma omp tick(s >> 2)
@@ -296,159 +228,122 @@ int main(void) {
     x = s;
     #pragma omp tick(s >> 9)
 }
-",
-        &[
-            (
-                0,
-                6,
-                "0 [] w 2 4; 1 [] r 2 1 1 s 65541, r 2 1 1 s 0; 2 [] r 2 1 1 s 1, w 2 1; Done",
-            ),
-            (
-                0,
-                5,
-                "0 [] w 2 4; 1 [] r 2 1 1 s 65541, r 2 1 1 s 0; 2 [] r 2 1 1 s 1, w 2 1; over budget",
-            ),
-        ],
-        &[(0, &[], 0, "Done 0 0 0 0")],
-    ),
-    (
-        "int main(void) {
+----
+run 0 6 = 0 [] w 2 4; 1 [] r 2 1 1 s 65541, r 2 1 1 s 0; 2 [] r 2 1 1 s 1, w 2 1; Done
+run 0 5 = 0 [] w 2 4; 1 [] r 2 1 1 s 65541, r 2 1 1 s 0; 2 [] r 2 1 1 s 1, w 2 1; over budget
+body 0 0 = Done 0 0 0 0
+====
+int main(void) {
 int s[2] __attribute__((stream));
 #pragma omp tick(s[2] >> 1 / 0)
 }
-",
-        &[(0, 0, "trapped 4 line 3")],
-        &[],
-    ),
-    (
-        "int main(void) {
+----
+run 0 0 = trapped 4 line 3
+====
+int main(void) {
 int s[2] __attribute__((stream));
 #pragma omp tick(s[1 / 0] >> 70000)
 }
-",
-        &[(0, 0, "trapped 2 line 3")],
-        &[],
-    ),
-    (
-        "int main(void) {
+----
+run 0 0 = trapped 2 line 3
+====
+int main(void) {
 int s[2] __attribute__((stream));
 #pragma omp tick(s[1] >> 65537)
 }
-",
-        &[(0, 0, "trapped 7 line 3")],
-        &[],
-    ),
-    (
-        "int main(void) {
+----
+run 0 0 = trapped 7 line 3
+====
+int main(void) {
 int s[2] __attribute__((stream));
-#pragma omp tick(s[1] \\
->> \\
+#pragma omp tick(s[1] \
+>> \
 -1)
 }
-",
-        &[(0, 0, "trapped 7 line 4")],
-        &[],
-    ),
-    (
-        "int main(void) {
+----
+run 0 0 = trapped 7 line 4
+====
+int main(void) {
 int s[2] __attribute__((stream));
-#pragma omp tick(s[0 - \\
+#pragma omp tick(s[0 - \
 1] >> 1)
 }
-",
-        &[(0, 0, "trapped 4 line 3")],
-        &[],
-    ),
-    (
-        "int main(void) {
+----
+run 0 0 = trapped 4 line 3
+====
+int main(void) {
 int s[2] __attribute__((stream));
 #pragma omp tick(s[0] >> 65536)
 }
-",
-        &[(0, 0, "over budget")],
-        &[],
-    ),
-    (
-        "int main(void) {
+----
+run 0 0 = over budget
+====
+int main(void) {
 int s[2] __attribute__((stream));
 #pragma omp tick(s[0] >> 65536)
 }
-",
-        &[(0, 1, "Done")],
-        &[],
-    ),
-    (
-        "int main(void) {
+----
+run 0 1 = Done
+====
+int main(void) {
 int s[2] __attribute__((stream));
 int v[2], w[3];
 #pragma omp task input(osin >> v[65537]) output(s[5] << w[3])
 ;
 }
-",
-        &[(0, 9, "trapped 7 line 4")],
-        &[],
-    ),
-    (
-        "int main(void) {
+----
+run 0 9 = trapped 7 line 4
+====
+int main(void) {
 int s[2] __attribute__((stream));
 int v[2], w[3];
-#pragma omp task input(osin >> v[2]) \\
-output(s[5] \\
+#pragma omp task input(osin >> v[2]) \
+output(s[5] \
 << w[4])
 ;
 }
-",
-        &[(0, 9, "trapped 4 line 5")],
-        &[],
-    ),
-    (
-        "int main(void) {
+----
+run 0 9 = trapped 4 line 5
+====
+int main(void) {
 int s[2] __attribute__((stream));
 int v[2], w[3];
-#pragma omp task input(osin >> v[2]) \\
-output(s[1] \\
+#pragma omp task input(osin >> v[2]) \
+output(s[1] \
 << w[4])
 ;
 }
-",
-        &[(0, 9, "trapped 8 line 6")],
-        &[],
-    ),
-    (
-        "int main(void) {
+----
+run 0 9 = trapped 8 line 6
+====
+int main(void) {
 int s[2] __attribute__((stream));
 int v[2], w[3];
 #pragma omp task output(s[0] << w[3], osout << v[0 - 2])
 ;
 }
-",
-        &[(0, 9, "trapped 8 line 4")],
-        &[],
-    ),
-    (
-        "int main(void) {
+----
+run 0 9 = trapped 8 line 4
+====
+int main(void) {
 int s[2] __attribute__((stream));
 int v[2], w[3];
 #pragma omp task output(s[0] << w[3]) input(osin >> v[0 - 1])
 ;
 }
-",
-        &[(0, 9, "trapped 7 line 4")],
-        &[],
-    ),
-    (
-        "int main(void) {
+----
+run 0 9 = trapped 7 line 4
+====
+int main(void) {
 int s[2] __attribute__((stream));
 int v[2], w[3];
 #pragma omp task output(s[0] << w[3]) input(s[2] >> v[1 / 0])
 ;
 }
-",
-        &[(0, 9, "trapped 4 line 4")],
-        &[],
-    ),
-    (
-        "int main(void) {
+----
+run 0 9 = trapped 4 line 4
+====
+int main(void) {
     int n;
     for (n = 2; n >= 0; n--) {
         int a[n], b[n];
@@ -456,27 +351,14 @@ int v[2], w[3];
         { int k; for (k = 0; k < n; k++) b[k] = a[n - 1 - k]; }
     }
 }
-",
-        &[
-            (
-                2,
-                3,
-                "0 [2] r 0 2 1 s 0, w 1 2; 0 [1] r 0 1 1 s 0, w 1 1; trapped 6 line 4",
-            ),
-            (
-                2,
-                2,
-                "0 [2] r 0 2 1 s 0, w 1 2; 0 [1] r 0 1 1 s 0, w 1 1; over budget",
-            ),
-        ],
-        &[
-            (0, &[5, 6], 3, "Done 6 5"),
-            (0, &[5, 6], 2, "over budget"),
-            (1, &[6], 9, "Done 6"),
-        ],
-    ),
-    (
-        "const int c = 2;
+----
+run 2 3 = 0 [2] r 0 2 1 s 0, w 1 2; 0 [1] r 0 1 1 s 0, w 1 1; trapped 6 line 4
+run 2 2 = 0 [2] r 0 2 1 s 0, w 1 2; 0 [1] r 0 1 1 s 0, w 1 1; over budget
+body 0 3 5 6 = Done 6 5
+body 0 2 5 6 = over budget
+body 1 9 6 = Done 6
+====
+const int c = 2;
 int f(int c) { { int c = c + 1; c = 9; } c = c * 10; return c; }
 int main(void) {
     int c = f(c + 3) - 29 + c;
@@ -491,19 +373,14 @@ int main(void) {
     #pragma omp task output(osout << y)
     y = osin_len + c;
 }
-",
-        &[
-            (0, 1, "0 [1] w 1 3; 1 [1] w 1 1; 2 [1 8] w 1 1; Done"),
-            (0, 0, "over budget"),
-        ],
-        &[
-            (0, &[], 3, "Done 1 4 41"),
-            (1, &[], 0, "Done 0"),
-            (2, &[], 0, "Done 9"),
-        ],
-    ),
-    (
-        "int main(void) {
+----
+run 0 1 = 0 [1] w 1 3; 1 [1] w 1 1; 2 [1 8] w 1 1; Done
+run 0 0 = over budget
+body 0 3 = Done 1 4 41
+body 1 0 = Done 0
+body 2 0 = Done 9
+====
+int main(void) {
     int b = 1, a = 2, d = 4, e, y;
     for (int k = 5; k < 6; k++) {
         int b = 7;
@@ -516,20 +393,13 @@ int main(void) {
     #pragma omp task firstprivate(osin_len) output(osout << y)
     y = b;
 }
-",
-        &[(
-            3,
-            2,
-            "0 [3 2 0 5 7] w 1 1; 1 [50 60] w 1 1; 2 [3 1] w 1 1; Done",
-        )],
-        &[
-            (0, &[], 0, "Done 19"),
-            (1, &[], 0, "Done 110"),
-            (2, &[], 0, "Done 1"),
-        ],
-    ),
-    (
-        "int main(void) {
+----
+run 3 2 = 0 [3 2 0 5 7] w 1 1; 1 [50 60] w 1 1; 2 [3 1] w 1 1; Done
+body 0 0 = Done 19
+body 1 0 = Done 110
+body 2 0 = Done 1
+====
+int main(void) {
     int s __attribute__((stream)), t __attribute__((stream));
     int x, v[2];
     #pragma omp task input(s) output(t, osout << v[2])
@@ -537,16 +407,12 @@ int main(void) {
     #pragma omp task input(t >> x), output(s << v[2])
     { int k; for (k = 0; k < 2; k++) v[k] = v[k] + x; v[0] *= v[1]; }
 }
-",
-        &[(
-            0,
-            0,
-            "0 [] r 2 1 1 s 0, w 3 1, w 1 2; 1 [] r 3 1 1 s 0, w 2 2; Done",
-        )],
-        &[(0, &[41], 9, "Done 42 1 42"), (1, &[6], 9, "Done 36 6")],
-    ),
-    (
-        "int main(void) {
+----
+run 0 0 = 0 [] r 2 1 1 s 0, w 3 1, w 1 2; 1 [] r 3 1 1 s 0, w 2 2; Done
+body 0 9 41 = Done 42 1 42
+body 1 9 6 = Done 36 6
+====
+int main(void) {
     int i;
     for (i = 0; i < 4; i++) {
         if (i & 1) {
@@ -561,23 +427,14 @@ int main(void) {
         ;
     }
 }
-",
-        &[
-            (0, 5, "2 []; 0 []; 2 []; 1 []; 2 []; 0 []; 2 []; Done"),
-            (
-                0,
-                4,
-                "2 []; 0 []; 2 []; 1 []; 2 []; 0 []; 2 []; over budget",
-            ),
-        ],
-        &[
-            (0, &[], 0, "Done"),
-            (1, &[], 0, "Done"),
-            (3, &[], 0, "Done"),
-        ],
-    ),
-    (
-        "int f(int n) {
+----
+run 0 5 = 2 []; 0 []; 2 []; 1 []; 2 []; 0 []; 2 []; Done
+run 0 4 = 2 []; 0 []; 2 []; 1 []; 2 []; 0 []; 2 []; over budget
+body 0 0 = Done
+body 1 0 = Done
+body 3 0 = Done
+====
+int f(int n) {
     int i, s;
     for (i = 0; i < n; i++) {
         int j = 9;
@@ -593,17 +450,14 @@ int main(void) {
     #pragma omp task output(s << y)
     y = f(2);
 }
-",
-        &[(0, 0, "0 [] w 2 1; 1 [] w 2 1; Done")],
-        &[
-            (0, &[], 19, "Done 42"),
-            (0, &[], 18, "over budget"),
-            (1, &[], 14, "Done 0"),
-            (1, &[], 13, "over budget"),
-        ],
-    ),
-    (
-        "int main(void) {
+----
+run 0 0 = 0 [] w 2 1; 1 [] w 2 1; Done
+body 0 19 = Done 42
+body 0 18 = over budget
+body 1 14 = Done 0
+body 1 13 = over budget
+====
+int main(void) {
     int k;
     #pragma omp tick(osin >> 1)
     #pragma omp task input(osin) output(osout)
@@ -613,43 +467,34 @@ int main(void) {
         { osout = osin; if (k < 9) osout -= 1; }
     }
 }
-",
-        &[(
-            3,
-            4,
-            "0 [] r 0 1 1 s 1, w 1 1; 1 [] r 0 1 1 s 0, r 0 1 1 s 0, w 1 1; 1 [] r 0 1 1 s 0, r 0 1 1 s 0, w 1 1; Done",
-        )],
-        &[
-            (0, &[200], 0, "Done 55"),
-            (1, &[9, 8], 0, "Done 8"),
-            (1, &[9, 9], 0, "Done 9"),
-            (1, &[0, 0], 0, "trapped 5 line 7"),
-        ],
-    ),
-    (
-        "int main(void) {
+----
+run 3 4 = 0 [] r 0 1 1 s 1, w 1 1; 1 [] r 0 1 1 s 0, r 0 1 1 s 0, w 1 1; 1 [] r 0 1 1 s 0, r 0 1 1 s 0, w 1 1; Done
+body 0 0 200 = Done 55
+body 1 0 9 8 = Done 8
+body 1 0 9 9 = Done 9
+body 1 0 0 0 = trapped 5 line 7
+====
+int main(void) {
 int s __attribute__((stream)); int y;
 #pragma omp task output(s << y)
 { int x = 7; x
 <<=
 31; }
 }
-",
-        &[(0, 9, "0 [] w 2 1; Done")],
-        &[(0, &[], 9, "trapped 3 line 5")],
-    ),
-    (
-        "int main(void) {
+----
+run 0 9 = 0 [] w 2 1; Done
+body 0 9 = trapped 3 line 5
+====
+int main(void) {
 int s __attribute__((stream)); int y;
 #pragma omp task output(s << y)
 { int x = 7; x -= x - 1; y = x; }
 }
-",
-        &[(0, 9, "0 [] w 2 1; Done")],
-        &[(0, &[], 9, "Done 1")],
-    ),
-    (
-        "int main(void) {
+----
+run 0 9 = 0 [] w 2 1; Done
+body 0 9 = Done 1
+====
+int main(void) {
 int s __attribute__((stream)); int y;
 #pragma omp task output(s << y)
 { int x = 7; x
@@ -657,58 +502,52 @@ int s __attribute__((stream)); int y;
 x -
 7; }
 }
-",
-        &[(0, 9, "0 [] w 2 1; Done")],
-        &[(0, &[], 9, "trapped 2 line 5")],
-    ),
-    (
-        "int main(void) {
+----
+run 0 9 = 0 [] w 2 1; Done
+body 0 9 = trapped 2 line 5
+====
+int main(void) {
 int s __attribute__((stream)); int y;
 #pragma omp task output(s << y)
 { int x = 7; x += 2147483647 +
 1 / 0; }
 }
-",
-        &[(0, 9, "0 [] w 2 1; Done")],
-        &[(0, &[], 9, "trapped 2 line 5")],
-    ),
-    (
-        "int main(void) {
+----
+run 0 9 = 0 [] w 2 1; Done
+body 0 9 = trapped 2 line 5
+====
+int main(void) {
 int s __attribute__((stream)); int y;
 #pragma omp task output(s << y)
 { int x = 2; x *= 3 + 4; y = x; }
 }
-",
-        &[(0, 9, "0 [] w 2 1; Done")],
-        &[(0, &[], 9, "Done 14")],
-    ),
-    (
-        "int main(void) {
+----
+run 0 9 = 0 [] w 2 1; Done
+body 0 9 = Done 14
+====
+int main(void) {
 int s __attribute__((stream)); int y;
 #pragma omp task output(s << y)
 { int x = -2147483647; --x;
 x--; }
 }
-",
-        &[(0, 9, "0 [] w 2 1; Done")],
-        &[(0, &[], 9, "trapped 1 line 5")],
-    ),
-    (
-        "int f(int n) { while (n) n--; return n; }
+----
+run 0 9 = 0 [] w 2 1; Done
+body 0 9 = trapped 1 line 5
+====
+int f(int n) { while (n) n--; return n; }
 int main(void) {
     int w[f(2) + 1], y;
     #pragma omp task input(osin >> w[f(1)]) output(osout << y)
     y = f(3) + w[0];
 }
-",
-        &[
-            (0, 7, "0 [] r 0 1 0 s 0, w 1 1; Done"),
-            (0, 6, "over budget"),
-        ],
-        &[(0, &[77], 5, "Done 77"), (0, &[77], 4, "over budget")],
-    ),
-    (
-        "const int B = 4;
+----
+run 0 7 = 0 [] r 0 1 0 s 0, w 1 1; Done
+run 0 6 = over budget
+body 0 5 77 = Done 77
+body 0 4 77 = over budget
+====
+const int B = 4;
 int main(void) {
     int i;
     for (i = 0; i < osin_len; i += B) {
@@ -722,23 +561,10 @@ int main(void) {
     }
     return 0;
 }
-",
-        &[
-            (
-                10,
-                4,
-                "0 [4] r 0 4 4 s 0, w 1 4; 0 [4] r 0 4 4 s 0, w 1 4; 0 [2] r 0 2 2 s 0, w 1 2; Done",
-            ),
-            (
-                10,
-                3,
-                "0 [4] r 0 4 4 s 0, w 1 4; 0 [4] r 0 4 4 s 0, w 1 4; 0 [2] r 0 2 2 s 0, w 1 2; over budget",
-            ),
-        ],
-        &[
-            (0, &[0, 1, 2, 3], 5, "Done 255 254 253 252"),
-            (2, &[8, 9], 3, "Done 247 246"),
-            (2, &[8, 9], 2, "over budget"),
-        ],
-    ),
-];
+----
+run 10 4 = 0 [4] r 0 4 4 s 0, w 1 4; 0 [4] r 0 4 4 s 0, w 1 4; 0 [2] r 0 2 2 s 0, w 1 2; Done
+run 10 3 = 0 [4] r 0 4 4 s 0, w 1 4; 0 [4] r 0 4 4 s 0, w 1 4; 0 [2] r 0 2 2 s 0, w 1 2; over budget
+body 0 5 0 1 2 3 = Done 255 254 253 252
+body 2 3 8 9 = Done 247 246
+body 2 2 8 9 = over budget
+";
