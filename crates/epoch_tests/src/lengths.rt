@@ -138,8 +138,8 @@ const LONG: &str = r"int main(void) {
 }
 ";
 
-const PROGRAMS: [&str; 10] = [
-    INVERT, SMOOTH, LIFT, PIPELINE, BROADCAST, WAITING, BACKWARD, KEPT, STARVED, POISONED,
+const PROGRAMS: [&str; 11] = [
+    INVERT, SMOOTH, LIFT, PIPELINE, BROADCAST, WAITING, BACKWARD, KEPT, STARVED, POISONED, LONG,
 ];
 
 /// Epochs of at most so many activations, whatever their windows.
@@ -197,66 +197,6 @@ fn run<R: Threads + Sync>(
     run_epochs_of(rt, alloc, code, &INPUT, budgets, workers, &NoGate, size).ok()
 }
 
-/// Whether two runs came to the same: how each activation and `main` ended, and the output.
-fn are_same(run: &RunResult, other: &RunResult) -> bool {
-    run.control == other.control
-        && run.ends.ends.as_slice() == other.ends.ends.as_slice()
-        && run.ends.output.as_slice() == other.ends.output.as_slice()
-}
-
-/// Asks that a program comes to the same in epochs of this size, by one worker and by three, as in one epoch.
-fn comes_to_the_same<R: Threads + Sync + Abort>(rt: &R, alloc: Global, text: &str, size: EpochSize)
-    requires { 1 ≤ size.activations }
-{
-    let code = compiled(rt, alloc, text);
-    let Some(code) = code else {
-        assert!(rt; false, "{text}");
-        return;
-    };
-    let whole = run(rt, alloc, &code, of_activations(4096), 1);
-    let alone = run(rt, alloc, &code, size, 1);
-    let beside = run(rt, alloc, &code, size, 3);
-    match (whole, alone, beside) {
-        (Some(whole), Some(alone), Some(beside)) => {
-            assert!(rt; are_same(&whole, &alone), "{text}");
-            assert!(rt; are_same(&whole, &beside), "{text}");
-        }
-        _ => assert!(rt; false, "memory is ample"),
-    }
-}
-
-#[test]
-fn short_epochs_come_to_what_one_comes_to(rt: HostRuntime) -> Result<(), Fail> {
-    for text in PROGRAMS {
-        for length in 1..5 {
-            comes_to_the_same(&rt, rt.alloc(), text, of_activations(length));
-        }
-    }
-    Ok(())
-}
-
-#[test]
-fn epochs_that_end_by_elements_come_to_what_one_comes_to(rt: HostRuntime) -> Result<(), Fail> {
-    for text in PROGRAMS {
-        for elements in [0, 3, 10, 40] {
-            comes_to_the_same(&rt, rt.alloc(), text, of_elements(elements));
-        }
-    }
-    Ok(())
-}
-
-#[test]
-fn epochs_that_grow_while_activations_wait_come_to_what_one_comes_to(
-    rt: HostRuntime,
-) -> Result<(), Fail> {
-    for text in PROGRAMS {
-        for growth in [2, 7] {
-            comes_to_the_same(&rt, rt.alloc(), text, growing(growth));
-        }
-    }
-    Ok(())
-}
-
 /// A run by so many workers, in control order where that may be.
 fn run_in_order<R: Threads + Sync>(
     rt: &R,
@@ -273,30 +213,77 @@ fn run_in_order<R: Threads + Sync>(
     run_epochs(rt, alloc, code, &INPUT, budgets, workers, &NoGate).ok()
 }
 
-/// Asks that a program comes to the same in control order, by one worker and by three, as in one epoch.
-fn comes_to_the_same_in_order<R: Threads + Sync + Abort>(rt: &R, alloc: Global, text: &str) {
-    let code = compiled(rt, alloc, text);
-    let Some(code) = code else {
-        assert!(rt; false, "{text}");
-        return;
+/// Whether two runs came to the same: how each activation and `main` ended, and the output.
+fn are_same(run: &RunResult, other: &RunResult) -> bool {
+    run.control == other.control
+        && run.ends.ends.as_slice() == other.ends.ends.as_slice()
+        && run.ends.output.as_slice() == other.ends.output.as_slice()
+}
+
+/// Asks that memory was ample for a run, and that it came to the same as another one.
+fn is_same(rt: &impl Abort, run: Option<RunResult>, whole: &RunResult, text: &str) {
+    let same = match run {
+        Some(run) => are_same(&run, whole),
+        None => false,
     };
-    let whole = run(rt, alloc, &code, of_activations(4096), 1);
-    let alone = run_in_order(rt, alloc, &code, 1);
-    let beside = run_in_order(rt, alloc, &code, 3);
-    match (whole, alone, beside) {
-        (Some(whole), Some(alone), Some(beside)) => {
-            assert!(rt; are_same(&whole, &alone), "{text}");
-            assert!(rt; are_same(&whole, &beside), "{text}");
-        }
-        _ => assert!(rt; false, "memory is ample"),
+    assert!(rt; same, "{text}");
+}
+
+/// Asks that a program comes to the same in epochs of this size, by one worker and by three, as in one epoch.
+fn comes_to_the_same<R: Threads + Sync + Abort>(
+    rt: &R,
+    alloc: Global,
+    program: (&str, &Code),
+    whole: &RunResult,
+    size: EpochSize,
+)
+    requires { 1 ≤ size.activations }
+{
+    let (text, code) = program;
+    is_same(rt, run(rt, alloc, code, size, 1), whole, text);
+    is_same(rt, run(rt, alloc, code, size, 3), whole, text);
+}
+
+/// Asks that a program comes to the same as in one epoch: in short epochs, in epochs that end by elements, in epochs that grow while
+/// activations wait, and in control order.
+fn comes_to_the_same_in_each_way<R: Threads + Sync + Abort>(
+    rt: &R,
+    alloc: Global,
+    program: (&str, &Code),
+    whole: &RunResult,
+) {
+    for length in 1..5 {
+        comes_to_the_same(rt, alloc, program, whole, of_activations(length));
     }
+    for elements in [0, 3, 10, 40] {
+        comes_to_the_same(rt, alloc, program, whole, of_elements(elements));
+    }
+    for growth in [2, 7] {
+        comes_to_the_same(rt, alloc, program, whole, growing(growth));
+    }
+    let (text, code) = program;
+    is_same(rt, run_in_order(rt, alloc, code, 1), whole, text);
+    is_same(rt, run_in_order(rt, alloc, code, 3), whole, text);
+}
+
+/// The code of a text, and what its run in one epoch came to.
+fn run_whole<R: Threads + Sync + Abort>(
+    rt: &R,
+    alloc: Global,
+    text: &str,
+) -> Option<(Code, RunResult)> {
+    let code = compiled(rt, alloc, text)?;
+    let whole = run(rt, alloc, &code, of_activations(4096), 1)?;
+    Some((code, whole))
 }
 
 #[test]
-fn runs_in_control_order_come_to_what_one_epoch_comes_to(rt: HostRuntime) -> Result<(), Fail> {
+fn each_way_comes_to_what_one_epoch_comes_to(rt: HostRuntime) -> Result<(), Fail> {
     for text in PROGRAMS {
-        comes_to_the_same_in_order(&rt, rt.alloc(), text);
+        let Some((code, whole)) = run_whole(&rt, rt.alloc(), text) else {
+            return Err(Fail::from("a program, and ample memory"));
+        };
+        comes_to_the_same_in_each_way(&rt, rt.alloc(), (text, &code), &whole);
     }
-    comes_to_the_same_in_order(&rt, rt.alloc(), LONG);
     Ok(())
 }

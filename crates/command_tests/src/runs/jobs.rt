@@ -50,7 +50,7 @@ fn has_job<R: Threads + Sync + AllocGlobal + Abort>(rt: &R, job: &Job) -> Result
     Ok(())
 }
 
-const JOBS: [Job; 26] = [
+static JOBS: [Job; 26] = [
     // names
     ("run|p.c|in", "p.c", "in", 4, "output 64 of 64\n"),
     ("run|same|same", "same", "same", 4, "output 64 of 64\n"),
@@ -163,7 +163,7 @@ fn words_name_jobs(rt: HostRuntime) -> Result<(), Fail> {
 }
 
 /// Words of `gen`, how many workers run its blocks, and the lines.
-const GEN: [(&str, u32, &str); 4] = [
+static GEN: [(&str, u32, &str); 4] = [
     (
         "gen|0|1",
         1,
