@@ -4,7 +4,12 @@ ghost use Rattle.std.specs.Prelude.{◌≤◌};
 
 use crate::compiled::compiled;
 use epoch_run::{Budgets, EpochSize, RunResult, run_epochs, run_epochs_of};
-use kernels::{BROADCAST, INVERT, LIFT, PIPELINE, SMOOTH};
+use example_texts::{
+    ADLER, ADPCM, BANK, CRC, CURVE, DCT, DELTA, DIVIDE, FIRST, GAIN, NOISE, OVERLAP, RICE, SQUEEZE,
+    UNADPCM, UNBANK, UNDCT, UNDELTA, UNNOISE, UNRICE, UNSQUEEZE, UNWAVELET, WAITING as WAITS,
+    WAVELET,
+};
+use kernels::{BROADCAST, INVERT, LIFT, PIPELINE, SMOOTH, UNLIFT};
 use os_code::Code;
 use std::alloc::Global;
 use std::process::Abort;
@@ -138,8 +143,9 @@ const LONG: &str = r"int main(void) {
 }
 ";
 
-const PROGRAMS: [&str; 11] = [
-    INVERT, SMOOTH, LIFT, PIPELINE, BROADCAST, WAITING, BACKWARD, KEPT, STARVED, POISONED, LONG,
+const PROGRAMS: [&str; 12] = [
+    INVERT, SMOOTH, LIFT, UNLIFT, PIPELINE, BROADCAST, WAITING, BACKWARD, KEPT, STARVED, POISONED,
+    LONG,
 ];
 
 /// Epochs of at most so many activations, whatever their windows.
@@ -214,7 +220,7 @@ fn run_in_order<R: Threads + Sync>(
 }
 
 /// Whether two runs came to the same: how each activation and `main` ended, and the output.
-fn are_same(run: &RunResult, other: &RunResult) -> bool {
+pub(crate) fn are_same(run: &RunResult, other: &RunResult) -> bool {
     run.control == other.control
         && run.ends.ends.as_slice() == other.ends.ends.as_slice()
         && run.ends.output.as_slice() == other.ends.output.as_slice()
@@ -277,13 +283,38 @@ fn run_whole<R: Threads + Sync + Abort>(
     Some((code, whole))
 }
 
-#[test]
-fn each_way_comes_to_what_one_epoch_comes_to(rt: HostRuntime) -> Result<(), Fail> {
-    for text in PROGRAMS {
-        let Some((code, whole)) = run_whole(&rt, rt.alloc(), text) else {
+/// Asks that each of some programs comes to the same as in one epoch.
+fn come_to_the_same<R: Threads + Sync + Abort>(
+    rt: &R,
+    alloc: Global,
+    texts: &[&str],
+) -> Result<(), Fail> {
+    for text in texts {
+        let Some((code, whole)) = run_whole(rt, alloc, *text) else {
             return Err(Fail::from("a program, and ample memory"));
         };
-        comes_to_the_same_in_each_way(&rt, rt.alloc(), (text, &code), &whole);
+        comes_to_the_same_in_each_way(rt, alloc, (*text, &code), &whole);
     }
     Ok(())
+}
+
+#[test]
+fn each_way_comes_to_what_one_epoch_comes_to(rt: HostRuntime) -> Result<(), Fail> {
+    come_to_the_same(&rt, rt.alloc(), &PROGRAMS)?;
+    come_to_the_same(
+        &rt,
+        rt.alloc(),
+        &[ADLER, CRC, CURVE, GAIN, FIRST, OVERLAP, DIVIDE, WAITS],
+    )?;
+    come_to_the_same(
+        &rt,
+        rt.alloc(),
+        &[ADPCM, UNADPCM, WAVELET, UNWAVELET, BANK, UNBANK],
+    )?;
+    come_to_the_same(
+        &rt,
+        rt.alloc(),
+        &[DELTA, UNDELTA, DCT, UNDCT, NOISE, UNNOISE],
+    )?;
+    come_to_the_same(&rt, rt.alloc(), &[RICE, UNRICE, SQUEEZE, UNSQUEEZE])
 }
