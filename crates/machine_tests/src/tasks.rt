@@ -69,8 +69,8 @@ fn comes_to(rt: &(impl AllocGlobal + Abort), body: &[Instr], runs: &[Run]) -> Re
             (last_values, last_budget.min(1000)),
             (values, budget.min(1000)),
         )?;
-        assert_eq!(rt; (before.end, before.steps), (last_end, last_steps));
-        assert_eq!(rt; (ran.end, ran.steps), (end, steps));
+        assert!(rt; (before.end, before.steps) == (last_end, last_steps));
+        assert!(rt; (ran.end, ran.steps) == (end, steps));
         assert!(rt; end != TaskEnd::Done || written == outputs);
         assert!(rt; end != TaskEnd::OverBudget || ran.turns == budget.min(1000));
     }
@@ -405,7 +405,7 @@ fn operators_give_numbers(rt: HostRuntime) -> Result<(), Fail> {
         (Binary::Remainder, -7, 2, -1),
         (Binary::Remainder, 7, -2, 1),
     ] {
-        assert_eq!(rt; binary(rt.alloc(), op, [left, right])?, (done(6), number));
+        assert!(rt; binary(rt.alloc(), op, [left, right])? == (done(6), number));
     }
     for (op, value, number) in [
         (Unary::Minus, 5, -5),
@@ -415,7 +415,7 @@ fn operators_give_numbers(rt: HostRuntime) -> Result<(), Fail> {
         (Unary::Invert, 5, -6),
         (Unary::Invert, LEAST, MOST),
     ] {
-        assert_eq!(rt; unary(rt.alloc(), op, value)?, (done(5), number));
+        assert!(rt; unary(rt.alloc(), op, value)? == (done(5), number));
     }
     Ok(())
 }
@@ -439,22 +439,21 @@ fn operators_trap_at_their_line(rt: HostRuntime) -> Result<(), Fail> {
         (Binary::Remainder, 7, 0, 2),
     ] {
         let (ran, _) = binary(rt.alloc(), op, [left, right])?;
-        assert_eq!(rt; ran, trapped(code, 4, 4));
+        assert!(rt; ran == trapped(code, 4, 4));
     }
     let (ran, _) = unary(rt.alloc(), Unary::Minus, LEAST)?;
-    assert_eq!(rt; ran, trapped(1, 4, 3));
+    assert!(rt; ran == trapped(1, 4, 3));
     Ok(())
 }
 
 #[test]
 fn three_calls_deep_a_trap_keeps_its_line(rt: HostRuntime) -> Result<(), Fail> {
-    assert_eq!(rt;
-        deep(rt.alloc(), (0, 3), (1, 3))?,
-        (taking(3, trapped(2, 33, 13)), taking(3, done(18)), [1])
+    assert!(rt;
+        deep(rt.alloc(), (0, 3), (1, 3))?
+            == (taking(3, trapped(2, 33, 13)), taking(3, done(18)), [1])
     );
-    assert_eq!(rt;
-        deep(rt.alloc(), (0, 2), (-1, 4))?,
-        (taking(2, over(9)), taking(3, done(18)), [-1])
+    assert!(rt;
+        deep(rt.alloc(), (0, 2), (-1, 4))? == (taking(2, over(9)), taking(3, done(18)), [-1])
     );
     Ok(())
 }
@@ -473,19 +472,16 @@ fn a_trap_in_a_test_behind_a_turn_has_taken_the_turn(rt: HostRuntime) -> Result<
         Instr::End,
     ];
     let (before, ran, _) = run_alone(rt.alloc(), &body, ([1, 0], 0), ([1, 0], 2))?;
-    assert_eq!(rt; before, over(1));
-    assert_eq!(rt; ran, taking(1, trapped(2, 4, 4)));
+    assert!(rt; before == over(1));
+    assert!(rt; ran == taking(1, trapped(2, 4, 4)));
     Ok(())
 }
 
 #[test]
 fn eight_windows_have_their_own_places(rt: HostRuntime) -> Result<(), Fail> {
     let (first, second, outputs) = eight(rt.alloc(), 4, 3)?;
-    assert_eq!(rt; first, trapped(4, 4, 3));
-    assert_eq!(rt; second, done(8));
-    assert_eq!(rt;
-        (outputs[8], outputs[9], outputs[10], outputs[35]),
-        (0, 9, 0, 8)
-    );
+    assert!(rt; first == trapped(4, 4, 3));
+    assert!(rt; second == done(8));
+    assert!(rt; (outputs[8], outputs[9], outputs[10], outputs[35]) == (0, 9, 0, 8));
     Ok(())
 }

@@ -62,7 +62,7 @@ impl Case<'_> {
     }
 }
 
-const CASES: [Case<'static>; 8] = [
+static CASES: [Case<'static>; 8] = [
     Case {
         shape: Shape::Windows,
         activations: 3998,
@@ -181,7 +181,7 @@ const CASES: [Case<'static>; 8] = [
 ];
 
 /// One failed activation poisons many, and many poison one.
-const FAILING: [Case<'static>; 2] = [
+static FAILING: [Case<'static>; 2] = [
     // The second one traps, and poisons all behind it, each by way of the one before.
     Case {
         shape: Shape::Chain,
@@ -341,7 +341,7 @@ impl Gate for Meeting {
 }
 
 /// Activations that are all open from the start, as kernel `invert` makes them over eight bytes and over 32.
-const MEETINGS: [Case<'static>; 2] = [
+static MEETINGS: [Case<'static>; 2] = [
     Case {
         shape: Shape::Blocks,
         activations: 2,

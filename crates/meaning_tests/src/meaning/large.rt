@@ -65,12 +65,11 @@ fn activations_are_counted(rt: HostRuntime) -> Result<(), Fail> {
     for (text, input_len, budget, count, end) in &COUNTED {
         let checked = accepted(rt.alloc(), *text)?;
         let control = plain_control(rt.alloc(), &checked.program, *input_len, *budget)?;
-        assert_eq!(rt;
-            control.activations.len(),
-            *count,
+        assert!(rt;
+            control.activations.len() == *count,
             "budget {budget} of {text}"
         );
-        assert_eq!(rt; control.end, *end, "budget {budget} of {text}");
+        assert!(rt; control.end == *end, "budget {budget} of {text}");
     }
     Ok(())
 }
@@ -81,8 +80,8 @@ fn kernels_are_done_over_a_thousand_bytes(rt: HostRuntime) -> Result<(), Fail> {
     for (text, count) in &KERNELS {
         let checked = accepted(rt.alloc(), *text)?;
         let control = plain_control(rt.alloc(), &checked.program, 1_000, 100_000)?;
-        assert_eq!(rt; control.activations.len(), *count, "{text}");
-        assert_eq!(rt; control.end, ControlEnd::Done, "{text}");
+        assert!(rt; control.activations.len() == *count, "{text}");
+        assert!(rt; control.end == ControlEnd::Done, "{text}");
         for activation in control.activations.as_slice() {
             let given = inputs(rt.alloc(), activation.claims.as_slice())?;
             let (end, outputs) = plain_body(
@@ -92,7 +91,7 @@ fn kernels_are_done_over_a_thousand_bytes(rt: HostRuntime) -> Result<(), Fail> {
                 given.as_slice(),
                 1_000,
             )?;
-            assert_eq!(rt; end, TaskEnd::Done, "{text}");
+            assert!(rt; end == TaskEnd::Done, "{text}");
             assert!(rt; !outputs.is_empty(), "{text}");
         }
     }

@@ -2,7 +2,7 @@ use super::Case;
 use crate::literals::{frame, piece, read, reads, writes, written};
 use std::test::Fail;
 
-const THERE_IS_NO_ACTIVATION: Case<'static> = Case {
+static THERE_IS_NO_ACTIVATION: Case<'static> = Case {
     input: &[],
     tasks: &[],
     spans: &[],
@@ -23,7 +23,7 @@ fn there_is_no_activation(rt: HostRuntime) -> Result<(), Fail> {
     THERE_IS_NO_ACTIVATION.holds(&rt)
 }
 
-const ACTIVATIONS_HAVE_NO_CLAIM: Case<'static> = Case {
+static ACTIVATIONS_HAVE_NO_CLAIM: Case<'static> = Case {
     input: &[],
     tasks: &[&[], &[writes!(1, 1)], &[]],
     spans: &[written!(1, 1, 0, 1, 0)],
@@ -48,7 +48,7 @@ fn activations_have_no_claim(rt: HostRuntime) -> Result<(), Fail> {
     ACTIVATIONS_HAVE_NO_CLAIM.holds(&rt)
 }
 
-const THE_INPUT_IS_EMPTY: Case<'static> = Case {
+static THE_INPUT_IS_EMPTY: Case<'static> = Case {
     input: &[],
     tasks: &[&[reads!(0, 2, 2, 0), writes!(1, 2)]],
     spans: &[read!(0, 0, 0, 2, 0), written!(0, 1, 0, 2, 0)],
@@ -69,7 +69,7 @@ fn the_input_is_empty(rt: HostRuntime) -> Result<(), Fail> {
     THE_INPUT_IS_EMPTY.holds(&rt)
 }
 
-const BETWEEN_FRAMES: Case<'static> = Case {
+static BETWEEN_FRAMES: Case<'static> = Case {
     input: &[],
     tasks: &[
         &[writes!(2, 65_536)],
@@ -95,7 +95,7 @@ const BETWEEN_FRAMES: Case<'static> = Case {
     empty: 131_072,
 };
 
-const OVER_THE_INPUT: Case<'static> = Case {
+static OVER_THE_INPUT: Case<'static> = Case {
     input: &[1, 2],
     tasks: &[&[reads!(0, 2, 1, 0)], &[reads!(0, 65_536, 1, 0)]],
     spans: &[read!(0, 0, 0, 2, 0), read!(1, 0, 1, 65_536, 0)],
@@ -117,7 +117,7 @@ fn windows_have_the_largest_horizon(rt: HostRuntime) -> Result<(), Fail> {
     OVER_THE_INPUT.holds(&rt)
 }
 
-const BEHIND_A_WRITER: Case<'static> = Case {
+static BEHIND_A_WRITER: Case<'static> = Case {
     input: &[9],
     tasks: &[
         &[writes!(2, 2)],
@@ -147,7 +147,7 @@ const BEHIND_A_WRITER: Case<'static> = Case {
     empty: 0,
 };
 
-const BEHIND_THE_INPUT: Case<'static> = Case {
+static BEHIND_THE_INPUT: Case<'static> = Case {
     input: &[9],
     tasks: &[&[reads!(0, 2, 1, 4_611_686_018_427_387_902)]],
     spans: &[read!(0, 0, 4_611_686_018_427_387_902, 2, 0)],

@@ -2,7 +2,7 @@ use super::Case;
 use crate::literals::{frame, piece, read, reads, writes, written};
 use std::test::Fail;
 
-const OVER_THE_INPUT: Case<'static> = Case {
+static OVER_THE_INPUT: Case<'static> = Case {
     input: &[3, 6, 9, 12],
     tasks: &[
         &[reads!(0, 3, 1, 0), writes!(1, 1)],
@@ -26,7 +26,7 @@ const OVER_THE_INPUT: Case<'static> = Case {
     empty: 2,
 };
 
-const OVER_A_WRITER: Case<'static> = Case {
+static OVER_A_WRITER: Case<'static> = Case {
     input: &[],
     tasks: &[
         &[writes!(2, 4)],
@@ -60,7 +60,7 @@ fn windows_overlap(rt: HostRuntime) -> Result<(), Fail> {
     OVER_A_WRITER.holds(&rt)
 }
 
-const A_BURST_OF_0_PEEKS: Case<'static> = Case {
+static A_BURST_OF_0_PEEKS: Case<'static> = Case {
     input: &[],
     tasks: &[
         &[writes!(2, 2)],
@@ -93,7 +93,7 @@ fn a_burst_of_0_peeks(rt: HostRuntime) -> Result<(), Fail> {
     A_BURST_OF_0_PEEKS.holds(&rt)
 }
 
-const SKIPS_AND_BURSTS_LEAVE_ELEMENTS_OUT: Case<'static> = Case {
+static SKIPS_AND_BURSTS_LEAVE_ELEMENTS_OUT: Case<'static> = Case {
     input: &[],
     tasks: &[
         &[writes!(2, 6)],

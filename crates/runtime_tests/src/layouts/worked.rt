@@ -2,7 +2,7 @@ use super::Case;
 use crate::literals::{frame, piece, read, reads, writes, written};
 use std::test::Fail;
 
-const TWO_PRODUCERS_ALTERNATE: Case<'static> = Case {
+static TWO_PRODUCERS_ALTERNATE: Case<'static> = Case {
     input: &[],
     tasks: &[
         &[writes!(2, 2)],
@@ -63,7 +63,7 @@ fn two_producers_alternate(rt: HostRuntime) -> Result<(), Fail> {
     TWO_PRODUCERS_ALTERNATE.holds(&rt)
 }
 
-const PEEKS_TWICE_AND_READS_BEHIND_A_TICK: Case<'static> = Case {
+static PEEKS_TWICE_AND_READS_BEHIND_A_TICK: Case<'static> = Case {
     input: &[5, 7],
     tasks: &[
         &[reads!(0, 1, 0, 0), writes!(1, 1)],
@@ -103,7 +103,7 @@ fn peeks_twice_and_reads_behind_a_tick(rt: HostRuntime) -> Result<(), Fail> {
     PEEKS_TWICE_AND_READS_BEHIND_A_TICK.holds(&rt)
 }
 
-const A_BURST_ABOVE_THE_HORIZON_LEAVES_ELEMENTS_OUT: Case<'static> = Case {
+static A_BURST_ABOVE_THE_HORIZON_LEAVES_ELEMENTS_OUT: Case<'static> = Case {
     input: &[1, 2, 3, 4],
     tasks: &[
         &[reads!(0, 1, 3, 0), writes!(1, 1)],
@@ -132,7 +132,7 @@ fn a_burst_above_the_horizon_leaves_elements_out(rt: HostRuntime) -> Result<(), 
     A_BURST_ABOVE_THE_HORIZON_LEAVES_ELEMENTS_OUT.holds(&rt)
 }
 
-const AN_INPUT_IS_SHORTER_THAN_A_WINDOW: Case<'static> = Case {
+static AN_INPUT_IS_SHORTER_THAN_A_WINDOW: Case<'static> = Case {
     input: &[1, 2],
     tasks: &[
         &[reads!(0, 4, 4, 0), writes!(2, 1)],

@@ -2,7 +2,7 @@ use super::Case;
 use crate::literals::{frame, piece, read, reads, writes, written};
 use std::test::Fail;
 
-const A_READER_COMES_BEFORE_ITS_WRITER: Case<'static> = Case {
+static A_READER_COMES_BEFORE_ITS_WRITER: Case<'static> = Case {
     input: &[],
     tasks: &[&[reads!(2, 1, 1, 0), writes!(1, 1)], &[writes!(2, 1)]],
     spans: &[
@@ -27,7 +27,7 @@ fn a_reader_comes_before_its_writer(rt: HostRuntime) -> Result<(), Fail> {
     A_READER_COMES_BEFORE_ITS_WRITER.holds(&rt)
 }
 
-const AN_ACTIVATION_WAITS_FOR_ITSELF: Case<'static> = Case {
+static AN_ACTIVATION_WAITS_FOR_ITSELF: Case<'static> = Case {
     input: &[],
     tasks: &[&[reads!(2, 1, 1, 0), writes!(2, 1)]],
     spans: &[read!(0, 2, 0, 1, 0), written!(0, 2, 0, 1, 0)],
@@ -48,7 +48,7 @@ fn an_activation_waits_for_itself(rt: HostRuntime) -> Result<(), Fail> {
     AN_ACTIVATION_WAITS_FOR_ITSELF.holds(&rt)
 }
 
-const A_WINDOW_SPANS_THREE_WRITERS_AND_A_GAP: Case<'static> = Case {
+static A_WINDOW_SPANS_THREE_WRITERS_AND_A_GAP: Case<'static> = Case {
     input: &[],
     tasks: &[
         &[writes!(2, 2)],
@@ -95,7 +95,7 @@ fn a_window_spans_three_writers_and_a_gap(rt: HostRuntime) -> Result<(), Fail> {
     A_WINDOW_SPANS_THREE_WRITERS_AND_A_GAP.holds(&rt)
 }
 
-const A_PIECE_BEGINS_IN_THE_MIDDLE_OF_A_WINDOW: Case<'static> = Case {
+static A_PIECE_BEGINS_IN_THE_MIDDLE_OF_A_WINDOW: Case<'static> = Case {
     input: &[],
     tasks: &[&[writes!(2, 2), writes!(3, 4)], &[reads!(3, 2, 2, 1)]],
     spans: &[
@@ -121,7 +121,7 @@ fn a_piece_begins_in_the_middle_of_a_window(rt: HostRuntime) -> Result<(), Fail>
     A_PIECE_BEGINS_IN_THE_MIDDLE_OF_A_WINDOW.holds(&rt)
 }
 
-const EIGHT_WINDOWS_ARE_ON_ONE_STREAM: Case<'static> = Case {
+static EIGHT_WINDOWS_ARE_ON_ONE_STREAM: Case<'static> = Case {
     input: &[],
     tasks: &[&[
         reads!(2, 1, 1, 0),

@@ -19,7 +19,7 @@ macro_rules! missing {
     };
 }
 
-const CASE: Case<'static> = Case {
+static CASE: Case<'static> = Case {
     streams: 3,
     input_len: 2,
     tasks: &[
@@ -42,7 +42,7 @@ const CASE: Case<'static> = Case {
 };
 
 /// The first missing element of some frames.
-const FOUND: [(u32, Option<Missing>); 7] = [
+static FOUND: [(u32, Option<Missing>); 7] = [
     (0, None),
     (3, None),
     (4, missing!(2, 5, Some(2))),

@@ -9,7 +9,7 @@ const REPORT: &[u8] =
     b"starved 0 stream 2 position 0 producer 1 starved\nstarved 1 stream 3 position 0 producer 0 starved\n\
          starved 2 stream 2 position 1 producer 2 starved\ncontrol done\noutput 0 of 0\n";
 
-const CASE: Case<'static> = Case {
+static CASE: Case<'static> = Case {
     streams: 4,
     input_len: 0,
     tasks: &[
@@ -23,7 +23,7 @@ const CASE: Case<'static> = Case {
 };
 
 /// A sink's room, how much it takes in a call, the call that fails, how many bytes of the report it takes, and why no more.
-const SINKS: [(u32, u32, u64, usize, &str); 7] = [
+static SINKS: [(u32, u32, u64, usize, &str); 7] = [
     (174, 174, 2, 174, "none"),
     (13, 4096, 99, 13, "stuck"),
     (173, 1, 999, 173, "stuck"),

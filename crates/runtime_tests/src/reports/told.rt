@@ -40,7 +40,7 @@ macro_rules! poison {
     };
 }
 
-const STARVED: [Told; 3] = [
+static STARVED: [Told; 3] = [
     // Cycles: each waits for another one, and the last for itself.
     (
         Case {
@@ -100,7 +100,7 @@ fn starved_activations_are_told(rt: HostRuntime) -> Result<(), Fail> {
     all_tell(&rt, &STARVED)
 }
 
-const GAPS: [Told; 4] = [
+static GAPS: [Told; 4] = [
     // A trap in the middle: the value behind the poison isn't written.
     (
         Case {
@@ -164,7 +164,7 @@ fn the_output_ends_at_the_first_gap(rt: HostRuntime) -> Result<(), Fail> {
     all_tell(&rt, &GAPS)
 }
 
-const CONTROLS: [Told; 3] = [
+static CONTROLS: [Told; 3] = [
     // A control program over budget.
     (
         Case {
