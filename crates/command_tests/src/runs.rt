@@ -20,8 +20,8 @@ fn has_left(
     report: &str,
     status: u8,
 ) -> Result<(), Fail> {
-    assert_eq!(rt; left.report.as_slice(), report.as_bytes());
-    assert_eq!(rt; left.out.as_slice(), out);
-    assert_eq!(rt; left.status, status, "{report}");
+    assert!(rt; left.report.as_slice() == report.as_bytes());
+    assert!(rt; left.out.as_slice() == out);
+    assert!(rt; left.status == status, "{report}");
     Ok(())
 }
