@@ -1,8 +1,9 @@
 ghost use Rattle.std.specs.Prelude.{◌≡◌};
-ghost use Rattle.collector.specs.Status.{has_done, is_done_control, status as status_of};
+ghost use Rattle.collector.specs.Status.{status as status_of};
 ghost use Rattle.osrun_core_jobs.specs.Status.{code_of};
 
-use flow_core_laws::{ControlEnd, Ends, TaskEnd};
+use collector::is_all_done;
+use flow_core_laws::{ControlEnd, Ends};
 use osrun_core_jobs::Status;
 use stream_match::Layout;
 
@@ -24,31 +25,10 @@ impl Run {
     pub fn status(&self) -> Status
         ensures { code_of result ≡ status_of self.now.ends.ends self.now.control }
     {
-        run_status(&self.ends, self.control)
+        if is_all_done(&self.ends, self.control) {
+            Status::AllDone
+        } else {
+            Status::NotAllDone
+        }
     }
-}
-
-/// Whether every activation and the control program are Done, as a status.
-fn run_status(ends: &Ends, control: ControlEnd) -> Status
-    ensures { code_of result ≡ status_of ends.now.ends control }
-{
-    if is_done_control(control) && ends.ends.as_slice().iter().all(is_done) {
-        Status::AllDone
-    } else {
-        Status::NotAllDone
-    }
-}
-
-/// Whether an activation is Done.
-fn is_done(end: &Option<TaskEnd>) -> bool
-    ensures { result ≡ has_done end.now }
-{
-    matches!(end, Some(TaskEnd::Done))
-}
-
-/// Whether the control program ran to its end.
-fn is_done_control(control: ControlEnd) -> bool
-    ensures { result ≡ is_done_control control }
-{
-    matches!(control, ControlEnd::Done)
 }
