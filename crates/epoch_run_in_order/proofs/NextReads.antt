@@ -25,7 +25,7 @@ use Rattle.stream_match_layouts.specs.declared.span.Span.{Span}
 use Rattle.stream_match_layouts.specs.Layout.{span_of}
 use Rattle.epoch_run_in_order.specs.declared.inputs.Inputs.{Inputs}
 use Rattle.epoch_run_in_order.specs.declared.streams.Streams.{Streams}
-use Rattle.epoch_run_in_order.specs.Reading.{AreRead, covered, covered_by}
+use Rattle.epoch_run_in_order.specs.Reading.{AreRead, covered, covered_by, values_in}
 use Rattle.epoch_run_in_order.specs.Streams.{elements_of, first_of, held_at, input_at}
 
 -- the element that is held at a place
@@ -123,7 +123,7 @@ module _ (streams : Streams) (before : List Activation) (input : List ℕ) (stat
       gathered-weaker (held_in streams input) here held_is_there (input_places (before ++ next ∷ []) (length before)) elements (ap gathered (sym (next_places streams input (before ++ next ∷ []) (length before))) ∙ h)
 
 -- where nothing that was read is poison there are as many values as elements
-pub values_count : (cells : List (Option Elem)) (inputs : Inputs) → AreRead cells inputs → inputs.root ≡ None → length inputs.values.items ≡ length cells
+pub values_count : (cells : List (Option Elem)) (inputs : Inputs) → AreRead cells inputs → inputs.root ≡ None → length (values_in inputs) ≡ length cells
 values_count cells inputs read none =
     let values : read.elements ≡ map Value (values_of read.elements) = others_are_values read.elements (sym read.root_is ∙ none) in
     ap length read.values_are ∙ sym (length-map (values_of read.elements) Value) ∙ sym (ap length values) ∙ length-gathered cells read.elements read.are_there

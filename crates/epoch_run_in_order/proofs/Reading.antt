@@ -3,21 +3,24 @@ use Rattle.std.proofs.Common.{◌≡◌, ℕ, ◌+◌, ◌-◌, ◌<◌, ◌≤�
 use Rattle.std.specs.Prelude.{◌==◌, if◌then◌else◌, min, nat_le, slice_get, slice_index_or}
 use Rattle.std.specs.Option.{option_map, option_map_or}
 use Rattle.std.specs.List.{range_with_len}
-use Rattle.std.proofs.lemmas.List.{map-id, map_more}
+use Rattle.std.proofs.lemmas.List.{append-nil, map-id}
+use mathlib.Core.List.{map-map}
 use Rattle.std.proofs.lemmas.Option.{slice_get-get_or}
 use Rattle.std.proofs.lemmas.Bool.Decides.{nat_tests}
 use Rattle.flow_core_laws.specs.declared.elem.Elem.{Elem}
 use Rattle.flow_core_laws.specs.declared.elem.Elem.TheVariants.{Value, Poison}
+use Rattle.flow_core_laws.specs.Poisoning.{least_root, values_of}
+use Rattle.flow_core_laws.specs.Round.{gathered}
 use Rattle.flow_core_laws.proofs.Gathering.{gathered-push}
 use Rattle.flow_core_laws.proofs.OneMore.{values-value, values-poison, least_root-value, least_root-poison}
 use Rattle.stream_match_layouts.specs.declared.span.Span.{Span}
-use Rattle.epoch_run_in_order.specs.Reading.{AreRead, covered}
+use Rattle.epoch_run_in_order.specs.Reading.{AreRead, covered, values_in}
 use Rattle.epoch_run_in_order.specs.Streams.{HasPlace, byte_element, elements_of, first_of, held_at, held_on, input_at}
 use Rattle.epoch_run_in_order.specs.declared.inputs.Inputs.{Inputs}
 use Rattle.epoch_run_in_order.specs.declared.streams.Streams.{Streams}
 use Rattle.epoch_run_in_order.proofs.Stretches.{map-stretch}
 
-pub AreRead-value : (cells : List (Option Elem)) (was now : Inputs) (v : ℤ) → now.root ≡ was.root → now.values.items ≡ was.values.items ++ v ∷ [] → AreRead cells was → AreRead (cells ++ Some (Value v) ∷ []) now
+pub AreRead-value : (cells : List (Option Elem)) (was now : Inputs) (v : ℤ) → now.root ≡ was.root → values_in now ≡ values_in was ++ v ∷ [] → AreRead cells was → AreRead (cells ++ Some (Value v) ∷ []) now
 AreRead-value cells was now v root values r = record {
   elements = r.elements ++ Value v ∷ [];
   are_there = gathered-push cells r.elements (Value v) r.are_there;
@@ -25,7 +28,7 @@ AreRead-value cells was now v root values r = record {
   values_are = values ∙ ap (λ (l : List ℤ). l ++ v ∷ []) r.values_are ∙ sym (values-value r.elements v);
 }
 
-pub AreRead-poison : (cells : List (Option Elem)) (was now : Inputs) (root lesser : ℕ) → lesser ≡ option_map_or (λ (before : ℕ). min before root) was.root root → now.root ≡ Some lesser → now.values.items ≡ was.values.items → AreRead cells was → AreRead (cells ++ Some (Poison root) ∷ []) now
+pub AreRead-poison : (cells : List (Option Elem)) (was now : Inputs) (root lesser : ℕ) → lesser ≡ option_map_or (λ (before : ℕ). min before root) was.root root → now.root ≡ Some lesser → values_in now ≡ values_in was → AreRead cells was → AreRead (cells ++ Some (Poison root) ∷ []) now
 AreRead-poison cells was now root lesser is root_is values r = record {
   elements = r.elements ++ Poison root ∷ [];
   are_there = gathered-push cells r.elements (Poison root) r.are_there;
@@ -34,18 +37,40 @@ AreRead-poison cells was now root lesser is root_is values r = record {
 }
 
 -- the same, by what the next element is
-pub AreRead-as_value : (cells : List (Option Elem)) (was now : Inputs) (element : Option Elem) (v : ℤ) → element ≡ Some (Value v) → now.root ≡ was.root → now.values.items ≡ was.values.items ++ v ∷ [] → AreRead cells was → AreRead (cells ++ element ∷ []) now
+pub AreRead-as_value : (cells : List (Option Elem)) (was now : Inputs) (element : Option Elem) (v : ℤ) → element ≡ Some (Value v) → now.root ≡ was.root → values_in now ≡ values_in was ++ v ∷ [] → AreRead cells was → AreRead (cells ++ element ∷ []) now
 AreRead-as_value cells was now element v is root values r = subst (λ (o : Option Elem). AreRead (cells ++ o ∷ []) now) (sym is) (AreRead-value cells was now v root values r)
 
-pub AreRead-as_poison : (cells : List (Option Elem)) (was now : Inputs) (element : Option Elem) (root lesser : ℕ) → element ≡ Some (Poison root) → lesser ≡ option_map_or (λ (before : ℕ). min before root) was.root root → now.root ≡ Some lesser → now.values.items ≡ was.values.items → AreRead cells was → AreRead (cells ++ element ∷ []) now
+pub AreRead-as_poison : (cells : List (Option Elem)) (was now : Inputs) (element : Option Elem) (root lesser : ℕ) → element ≡ Some (Poison root) → lesser ≡ option_map_or (λ (before : ℕ). min before root) was.root root → now.root ≡ Some lesser → values_in now ≡ values_in was → AreRead cells was → AreRead (cells ++ element ∷ []) now
 AreRead-as_poison cells was now element root lesser is least root_is values r = subst (λ (o : Option Elem). AreRead (cells ++ o ∷ []) now) (sym is) (AreRead-poison cells was now root lesser least root_is values r)
 
--- one more byte
-pub AreRead-byte : (cells : List (Option Elem)) (bytes : List ℕ) (i : ℕ) (was now : Inputs) → i < length bytes → now.root ≡ was.root → now.values.items ≡ was.values.items ++ pos (get_or bytes i 0) ∷ [] → AreRead (cells ++ map byte_element (take i bytes)) was → AreRead (cells ++ map byte_element (take (i + 1) bytes)) now
-AreRead-byte cells bytes i was now lt root values r =
-    subst (λ (cs : List (Option Elem)). AreRead cs now)
-    (append_assoc cells (map byte_element (take i bytes)) (byte_element (get_or bytes i 0) ∷ []) ∙ ap (λ (cs : List (Option Elem)). cells ++ cs) (sym (map_more byte_element bytes i 0 lt)))
-    (AreRead-value (cells ++ map byte_element (take i bytes)) was now (pos (get_or bytes i 0)) root values r)
+-- more values
+gathered-values : (cells : List (Option Elem)) (es : List Elem) (vs : List ℤ) → gathered cells ≡ Some es → gathered (cells ++ map (λ (v : ℤ). Some (Value v)) vs) ≡ Some (es ++ map Value vs)
+gathered-values cells es [] h = ap gathered (append-nil cells) ∙ h ∙ ap (λ (l : List Elem). Some l) (sym (append-nil es))
+gathered-values cells es (v ∷ vs) h =
+    ap gathered (sym (append_assoc cells (Some (Value v) ∷ []) (map (λ (v : ℤ). Some (Value v)) vs)))
+    ∙ gathered-values (cells ++ Some (Value v) ∷ []) (es ++ Value v ∷ []) vs (gathered-push cells es (Value v) h)
+    ∙ ap (λ (l : List Elem). Some l) (append_assoc es (Value v ∷ []) (map Value vs))
+
+least_root-values : (es : List Elem) (vs : List ℤ) → least_root (es ++ map Value vs) ≡ least_root es
+least_root-values es [] = ap least_root (append-nil es)
+least_root-values es (v ∷ vs) = ap least_root (sym (append_assoc es (Value v ∷ []) (map Value vs))) ∙ least_root-values (es ++ Value v ∷ []) vs ∙ least_root-value es v
+
+values-values : (es : List Elem) (vs : List ℤ) → values_of (es ++ map Value vs) ≡ values_of es ++ vs
+values-values es [] = ap values_of (append-nil es) ∙ sym (append-nil (values_of es))
+values-values es (v ∷ vs) =
+    ap values_of (sym (append_assoc es (Value v ∷ []) (map Value vs)))
+    ∙ values-values (es ++ Value v ∷ []) vs
+    ∙ ap (λ (l : List ℤ). l ++ vs) (values-value es v)
+    ∙ append_assoc (values_of es) (v ∷ []) vs
+
+-- more bytes
+pub AreRead-bytes : (cells : List (Option Elem)) (bytes : List ℕ) (was now : Inputs) → now.root ≡ was.root → values_in now ≡ values_in was ++ map pos bytes → AreRead cells was → AreRead (cells ++ map byte_element bytes) now
+AreRead-bytes cells bytes was now root values r = record {
+  elements = r.elements ++ map Value (map pos bytes);
+  are_there = ap (λ (cs : List (Option Elem)). gathered (cells ++ cs)) (sym (map-map (λ (v : ℤ). Some (Value v)) pos bytes)) ∙ gathered-values cells r.elements (map pos bytes) r.are_there;
+  root_is = root ∙ r.root_is ∙ sym (least_root-values r.elements (map pos bytes));
+  values_are = values ∙ ap (λ (l : List ℤ). l ++ map pos bytes) r.values_are ∙ sym (values-values r.elements (map pos bytes));
+}
 
 -- a span of the input covers a slice of its bytes
 pub covered_input : (streams : Streams) (input : List ℕ) (span : Span) → span.stream ≡ 0 → span.first + span.count ≤ length input → covered streams input span ≡ map byte_element (take span.count (drop span.first input))

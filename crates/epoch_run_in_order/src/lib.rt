@@ -7,6 +7,7 @@
 
 mod behind;
 mod cursors;
+mod gathering;
 mod giving_up;
 mod holding;
 mod in_order;

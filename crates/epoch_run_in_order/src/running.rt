@@ -1,6 +1,6 @@
 //! Running the next activation.
 
-ghost use Rattle.std.specs.Prelude.{◌≡◌, ◌∷◌, ◌++◌, ◌+◌, ◌^◌, ◌<◌, ◌≤◌, [], All, IfOk, List, None, OnOk, Some, false, length, map, slice_get, sum_by, true};
+ghost use Rattle.std.specs.Prelude.{◌≡◌, ◌∷◌, ◌++◌, ◌+◌, ◌^◌, ◌<◌, ◌≤◌, [], All, IfOk, List, None, OnOk, Some, false, length, map, slice_get, true};
 ghost use Rattle.flow_core_laws.specs.Poisoning.{least_root, values_of};
 ghost use Rattle.flow_core_laws.specs.Streams.{output_count};
 ghost use Rattle.flow_core_laws.specs.Window.{windows_of};
@@ -9,9 +9,9 @@ ghost use Rattle.flow_core_laws.specs.declared.elem.Elem.{Elem};
 ghost use Rattle.os_code.specs.Codes.{parts_of};
 ghost use Rattle.os_code.specs.Tasks.{Fits, input_count};
 ghost use Rattle.stream_match_layouts.specs.Layout.{span_of};
-ghost use Rattle.stream_match_layouts.specs.Spans.{write_count};
 ghost use Rattle.stream_match_layouts.specs.declared.span.Span.{Span};
 ghost use Rattle.task_vm.specs.Space.{IsMadeFor};
+ghost use Rattle.epoch_run_in_order.specs.Reading.{values_in};
 ghost use Rattle.epoch_run_in_order.specs.Standing.{AreNext, IsReady, StandsBehind, outcome_by};
 
 use crate::in_order::InOrder;
@@ -46,16 +46,16 @@ impl InOrder {
             → StandsBehind (parts_of code.now) all before input.now budget self.old
             → StandsBehind (parts_of code.now) all (before ++ activation.now ∷ []) input.now budget self.new) }
     {
-        let there = self.inputs.read_all(&self.streams, input, spans)?;
-        if !there {
+        let read = self.inputs.read_all(&self.streams, input, spans)?;
+        let Some(written) = read else {
             return Ok(false);
-        }
+        };
         let end = end_of(
             code,
             activation,
             &self.inputs,
             &mut self.outputs,
-            written_by(spans),
+            written,
             &mut self.scratch,
             budget,
         )?;
@@ -82,13 +82,13 @@ fn end_of(
     requires fits { Fits (parts_of code.now) activation.now }
     requires budget { budget ≤ 1000000000 }
     requires made { IsMadeFor (parts_of code.now) scratch.old }
-    requires inputs { inputs.now.root ≡ None → length inputs.now.values.items ≡ input_count activation.now }
+    requires inputs { inputs.now.root ≡ None → length (values_in inputs.now) ≡ input_count activation.now }
     requires count { count ≡ output_count activation.now }
     ensures made { OnOk result (IsMadeFor (parts_of code.now) scratch.new) }
     ensures end { IfOk result (λ end. (elements : List Elem) → inputs.now.root ≡ least_root elements
-        → inputs.now.values.items ≡ values_of elements → end ≡ (outcome_by (parts_of code.now) activation.now elements budget).end) }
+        → values_in inputs.now ≡ values_of elements → end ≡ (outcome_by (parts_of code.now) activation.now elements budget).end) }
     ensures outputs { IfOk result (λ end. end ≡ TaskEnd.Done → (elements : List Elem) → inputs.now.root ≡ least_root elements
-        → inputs.now.values.items ≡ values_of elements
+        → values_in inputs.now ≡ values_of elements
         → outputs.new.items ≡ (outcome_by (parts_of code.now) activation.now elements budget).outputs) }
     ensures room { IfOk result (λ end. end ≡ TaskEnd.Done → length outputs.new.items ≡ count) }
 {
@@ -99,7 +99,7 @@ fn end_of(
     Ok(run_task(
         code,
         activation,
-        inputs.values.as_slice(),
+        inputs.values(),
         outputs.as_mut_slice(),
         scratch,
         budget,
@@ -115,23 +115,4 @@ fn fit(outputs: &mut Vec<i32>, count: usize) -> Result<(), Memory>
     }
     outputs.resize(count, 0)?;
     Ok(())
-}
-
-/// How many elements spans write.
-fn written_by(spans: &[Span]) -> usize
-    requires { sum_by (λ (s : Span). s.count) spans.now < 2 ^ 32 }
-    ensures { result ≡ sum_by write_count spans.now }
-{
-    let mut count = 0;
-    for span in spans {
-        count += writes(*span);
-    }
-    count as usize
-}
-
-/// How many elements a span writes.
-fn writes(span: Span) -> u32
-    ensures { result ≡ write_count span }
-{
-    if span.write { span.count } else { 0 }
 }
