@@ -17,4 +17,5 @@ pub mod All
 pub mod Within
 pub mod Went
 pub mod Parts
+pub mod InPlace
 pub mod AtOnce

@@ -2,6 +2,7 @@
 pub mod Stretches
 -- What restates private functions.
 pub mod Spawning
+pub mod Sparing
 pub mod Ticking
 pub mod Ending
 pub mod Going

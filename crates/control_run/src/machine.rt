@@ -1,4 +1,6 @@
-ghost use Rattle.std.specs.Prelude.{◌≡◌};
+ghost use Rattle.std.specs.Prelude.{◌≡◌, ℕ, ◌≤◌, [], OnOk};
+ghost use Rattle.os_code.specs.declared.parts.Parts.{Parts};
+ghost use Rattle.control_run.specs.Ending.{HasGiven};
 
 use crate::made::Made;
 use crate::running::{Stopped, run};
@@ -82,8 +84,9 @@ impl Machine {
         ensures at_most { self.new.made.created ≤ self.old.made.created + at_most }
         ensures stops { IfOk result (StopsAs (parts_of code.now) input_len budget (self.old.made.created + at_most) (contents self.new)) }
     {
-        make_room(into, spare)?;
-        run(
+        let from = self.made.created;
+        spare.forget();
+        let ran = run(
             alloc,
             code,
             &mut self.registers,
@@ -92,21 +95,36 @@ impl Machine {
             self.callers.as_mut_slice(),
             &mut self.made,
             spare,
-            into,
             at_most,
             input_len,
             budget,
-        )
+        );
+        let handed = hand_over(alloc, from, &mut self.made, spare, into);
+        let stopped = ran?;
+        handed?;
+        Ok(stopped)
     }
 }
 
-/// Takes memory for as many activations as were handed back, where none of them was taken and the list has none: mostly as many
-/// are added to it.
-fn make_room(into: &mut List<Activation>, spare: &Spare) -> Result<(), Memory>
-    ensures { into.new ≡ into.old }
+/// Puts the activations that were made since so many behind those of a list. After `Memory` it counts those that it could put there.
+fn hand_over(
+    alloc: Global,
+    from: u32,
+    made: &mut Made,
+    spare: &mut Spare,
+    into: &mut List<Activation>,
+) -> Result<(), Memory>
+    requires ordered { from ≤ made.old.created }
+    ensures gives { (code : Parts) (input_len budget : ℕ) → HasGiven code input_len budget from made.old.created [] spare.old
+        → HasGiven code input_len budget from made.new.created into.old into.new }
+    ensures few { made.new.created ≤ made.old.created }
+    ensures same { OnOk result (made.new ≡ made.old) }
 {
-    if into.len() == 0 && spare.taken == 0 {
-        into.reserve(spare.activations.len())?;
+    let count = spare.hand_over(alloc, into);
+    let all = (made.created - from) as usize;
+    if count < all {
+        made.created = from + count as u32;
+        return Err(Memory);
     }
     Ok(())
 }

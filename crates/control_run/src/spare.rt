@@ -1,131 +1,130 @@
-//! Activations that are run no more, whose lists serve again.
+//! Activations that are run no more, and those that are made in their places.
 
-ghost use Rattle.std.specs.Prelude.{◌≡◌, ◌≤◌, length, IfOk};
-ghost use Rattle.control_run.specs.Spawning.{HasShape};
+ghost use Rattle.std.specs.Prelude.{◌≡◌, ◌+◌, ◌++◌, ◌*◌, ◌<◌, ◌≤◌, [], All, IfOk, IfSome, OnErr, OnOk, length, map, pos, slice_index_or, take};
+ghost use Rattle.os_code.specs.Machine.{spawned_claims};
+ghost use Rattle.control_run.specs.Spawning.{HasWindow, spawn_end, spawn_list, spawn_made};
 
-use flow_core_laws::{Activation, Claim};
+use crate::made::Made;
+use crate::places::{make_place, move_some};
+use crate::spawning::set_activation;
+use flow_core_laws::{Activation, ControlEnd};
+use os_code::Site;
 use os_io::{List, Memory};
 use std::alloc::Global;
+use std::marker::Model;
 use std::mem;
 
-/// How many others are looked at, and given up, where the next one doesn't fit.
-const LOOKS: u32 = 8;
-
-/// What stands in a claim before it is set.
-const BLANK: Claim = Claim {
-    stream: 0,
-    write: false,
-    horizon: 0,
-    burst: 0,
-    skip: 0,
-};
-
-/// Activations that are run no more. They are taken from the first on, since `main` mostly creates the next ones in
-/// the same order.
+/// Activations that are run no more, and those that are made in their places, from the first on, since `main` mostly creates the
+/// next ones in the same order. It is seen as the list of those that are made and not handed over.
 #[derive(Drop)]
 pub(crate) struct Spare {
-    pub activations: List<Activation>,
-    /// How many were taken: in their places stand empty ones.
-    pub taken: usize,
+    activations: List<Activation>,
+    /// Those that are made and not handed over stand from `first` on, below `made`.
+    first: usize,
+    made: usize,
+}
+
+impl Model for Spare {
+    ghost use Rattle.std.specs.Prelude.{List};
+    ghost use Rattle.flow_core_laws.specs.declared.activation.Activation.{Activation};
+    ghost use Rattle.control_run.specs.Sparing.{HasMade, made_in};
+
+    ghost Value = { List Activation };
+
+    ghost view = { made_in };
+
+    ghost invariant = { HasMade };
 }
 
 impl Spare {
     /// All activations of a list.
-    pub fn of(activations: List<Activation>) -> Spare {
+    pub fn of(activations: List<Activation>) -> Spare
+        ensures { result ≡ [] }
+    {
         Spare {
             activations,
-            taken: 0,
+            first: 0,
+            made: 0,
         }
     }
 
-    /// An activation with lists of these lengths, whatever stands in them: one that is spare, or a new one. Only a new
-    /// one takes memory.
+    /// Forgets those that are made.
+    pub fn forget(&mut self)
+        ensures { self.new ≡ [] }
+    {
+        self.first = self.made;
+    }
+
+    /// Creates the activation of a site in the place of a spare one, where one fits, and adds it; or answers how `main` ends
+    /// there. The slots are those of `main`; the operands are an index and a burst for each item. Only a new one takes memory.
     #[inline(always)]
-    pub fn take(
+    pub fn spawn(
         &mut self,
         alloc: Global,
-        captured: usize,
-        claims: usize,
-    ) -> Result<Activation, Memory>
-        requires few { claims ≤ 8 }
-        ensures { IfOk result (HasShape captured claims) }
+        streams: u32,
+        number: u32,
+        site: &Site,
+        slots: &[i32],
+        operands: &[i32],
+        made: &mut Made,
+    ) -> Result<Option<ControlEnd>, Memory>
+        requires windows { All (HasWindow (length slots.now)) site.now.items }
+        requires captured { All (λ slot. slot < length slots.now) site.now.captured }
+        requires pairs { length operands.now ≡ 2 * length site.now.items }
+        requires few { length site.now.items ≤ 8 }
+        requires streams { length made.old.skips ≡ streams }
+        requires positions { made.old.horizons ≤ 4194304 }
+        requires activations { made.old.created ≤ 65536 }
+        ensures end { IfOk result (λ end. end ≡ spawn_end made.old site.now.line (spawned_claims streams slots.now site.now.items operands.now)) }
+        ensures made { OnOk result (made.new ≡ spawn_made made.old (spawned_claims streams slots.now site.now.items operands.now)) }
+        ensures list { OnOk result (self.new ≡ spawn_list self.old made.old number (map (λ slot. slice_index_or slots.now slot (pos 0)) site.now.captured)
+            (spawned_claims streams slots.now site.now.items operands.now)) }
+        ensures count_kept { OnErr result (made.new.created ≡ made.old.created) }
+        ensures list_kept { OnErr result (self.new ≡ self.old) }
     {
-        match self.next(alloc) {
-            Some(one) => {
-                if one.captured.len() == captured && one.claims.len() == claims {
-                    return Ok(one);
-                }
-                let other = self.look_on(alloc, captured, claims)?;
-                Ok(other)
-            }
+        let place = self.made;
+        let next = make_place(
+            alloc,
+            &mut self.activations,
+            place,
+            site.captured.len(),
+            site.items.len(),
+        )?;
+        match set_activation(
+            streams,
+            number,
+            site,
+            slots,
+            operands,
+            made,
+            &mut self.activations.as_mut_slice()[place],
+        ) {
+            Some(end) => Ok(Some(end)),
             None => {
-                let new = blank(alloc, captured, claims)?;
-                Ok(new)
+                self.made = next;
+                Ok(None)
             }
         }
     }
 
-    /// The same where the first one doesn't fit: it gives up some others for one that does.
-    #[inline(never)]
-    fn look_on(
-        &mut self,
-        alloc: Global,
-        captured: usize,
-        claims: usize,
-    ) -> Result<Activation, Memory>
-        requires few { claims ≤ 8 }
-        ensures { IfOk result (HasShape captured claims) }
+    /// Puts those that are made behind the activations of a list, and answers how many: fewer than all where memory was wanting.
+    /// Where the list has none, and all that stand here are made, it takes no memory: the one list becomes the other. Otherwise it
+    /// takes memory for all that stand here at once, since the others mostly follow.
+    pub fn hand_over(&mut self, alloc: Global, into: &mut List<Activation>) -> usize
+        ensures few { result ≤ length self.old }
+        ensures list { into.new ≡ into.old ++ take result self.old }
     {
-        for _ in 0..LOOKS {
-            match self.next(alloc) {
-                Some(one) => {
-                    if one.captured.len() == captured && one.claims.len() == claims {
-                        return Ok(one);
-                    }
-                }
-                None => return blank(alloc, captured, claims),
-            }
+        if into.len() == 0 && self.first == 0 && self.made == self.activations.len() {
+            let count = self.made;
+            self.made = 0;
+            mem::swap(into, &mut self.activations);
+            return count;
         }
-        blank(alloc, captured, claims)
-    }
-
-    /// The next one, whatever it is.
-    #[inline(always)]
-    fn next(&mut self, alloc: Global) -> Option<Activation> {
-        let place = self.taken;
-        if place >= self.activations.len() {
-            return None;
+        if into.reserve(self.activations.len() - self.first).is_err() {
+            return 0;
         }
-        self.taken = place + 1;
-        let empty = Activation {
-            site: 0,
-            captured: List::new(alloc),
-            claims: List::new(alloc),
-        };
-        Some(mem::replace(&mut self.activations.as_mut_slice()[place], empty))
+        let count = move_some(alloc, &mut self.activations, self.first, self.made, into);
+        self.first = self.made;
+        count
     }
-}
-
-/// An activation with new lists of these lengths.
-#[inline(never)]
-fn blank(alloc: Global, captured: usize, claims: usize) -> Result<Activation, Memory>
-    requires few { claims ≤ 8 }
-    ensures { IfOk result (HasShape captured claims) }
-{
-    Ok(Activation {
-        site: 0,
-        captured: zeros(alloc, captured)?,
-        claims: List::from_slice(alloc, &[BLANK; 8][..claims])?,
-    })
-}
-
-/// A list of so many zeros.
-fn zeros(alloc: Global, count: usize) -> Result<List<i32>, Memory>
-    ensures { IfOk result (λ numbers. length numbers ≡ count) }
-{
-    let mut numbers = List::with_capacity(alloc, count)?;
-    for _ in 0..count {
-        numbers.push(0)?;
-    }
-    Ok(numbers)
 }

@@ -66,8 +66,8 @@ impl<'c> ControlRun<'c> {
         })
     }
 
-    /// Takes activations that are run no more: the next ones are made in their lists, which saves asking for memory anew. The next
-    /// stretch takes memory for as many activations at once, where the list that it adds to has none.
+    /// Takes activations that are run no more: the next ones are made in their places, which saves asking for memory anew. Where
+    /// the next stretch makes exactly as many, and the list that it adds to has none, this list becomes that one.
     pub fn reuse(&mut self, ended: List<Activation>)
         ensures { self.new ≡ self.old }
     {
