@@ -39,6 +39,10 @@ lowered_more spans stream before now after span is_one so_far step = by_test (is
           | inr ge ↦ as_far (omega (arith, least)) so_far
         ]
 
+-- by one span alone
+pub lowered_one : (spans : List Span) (stream before after : ℕ) (span : Span) → Contains spans span → after ≡ lowered stream span before → IsLowered spans stream before after
+lowered_one spans stream before after span is_one step = lowered_more spans stream before before after span is_one (as_before refl) step
+
 -- behind all that is written
 pub behind_missing : (layout : Layout) (is : IsLayout layout) (waits : List Bool) → AreMissing layout waits (set layout.writes 0 layout.input_len)
 behind_missing layout is waits = record { one_each = length-set layout.writes 0 layout.input_len ∙ streams; cannot_come = λ stream lt. behind (until stream (cases_eq stream 0)) }

@@ -58,7 +58,7 @@ ascends_filter test (x ∷ xs) h = by_test (test x) (ascends_filter test xs (λ 
     by_test true rest = ascends_cons x (filter test xs) rest (λ y g. above y (of_filter test xs y g).0)
     by_test false rest = rest
 
-contained : {A : Type 0} (xs : List A) (x : A) → Has xs x → Contains xs x
+pub contained : {A : Type 0} (xs : List A) (x : A) → Has xs x → Contains xs x
 contained xs x (i, at) = (i, slice_get_within xs i x at, get_or_from_slice_get xs i x x at)
 
 -- what the write span at a place gives to a span that reads
@@ -148,7 +148,7 @@ module _ (layout : Layout) (activations : List Activation) (of : IsLayoutOf layo
       subst (epoch.CannotCome ends frames) (sym (produced_by activations input p w other made)) (stuck_fed w.activation (w.offset + (p.position - w.first)) (ap (is_stuck waits) (sym (ap (λ (t : Span). t.frame) is)) ∙ s))
 
   -- what has a mark reads such an element
-  reads_it : (a : ℕ) → a < length activations → ((s : Span) → Has (spans_of layout a) s → s.stream < length layout.writers) → HasWaitingSpan layout waits (spans_of layout a)
+  pub reads_it : (a : ℕ) → a < length activations → ((s : Span) → Has (spans_of layout a) s → s.stream < length layout.writers) → HasWaitingSpan layout waits (spans_of layout a)
       → (p : Place) × (Contains (input_places activations a) p) × epoch.CannotCome ends frames (stream_source activations input p)
   unfolding input_places
   reads_it a lt exist h =

@@ -1,4 +1,4 @@
-ghost use Rattle.std.specs.Prelude.{◌≡◌, ◌≢◌, ◌<◌, ◌≤◌, ℕ, All, IfOk, false, filter, if◌then◌else◌, length, not, slice_index, slice_index_or, slice_set, true};
+ghost use Rattle.std.specs.Prelude.{◌≡◌, ◌≢◌, ◌<◌, ◌≤◌, ℕ, All, IfOk, IfSome, false, filter, if◌then◌else◌, length, not, slice_index, slice_index_or, slice_set, true};
 ghost use Rattle.stream_match.specs.EpochCode.{Ascend};
 ghost use Rattle.stream_match_layouts.specs.Layout.{IsLayout};
 ghost use Rattle.stream_match_layouts.specs.Spans.{frame_count};
@@ -17,6 +17,9 @@ pub(crate) fn up_to_last_behind(layout: &Layout, missing: &[u64], readers: &[u32
     requires missing { length missing.now ≡ length layout.now.writers }
     ensures { result ≤ length readers.now }
 {
+    if none_behind(layout, missing, readers) {
+        return 0;
+    }
     let mut left = readers.len();
     'readers: while left > 0 {
         let spans = layout.spans_of(readers[left - 1] as usize);
@@ -26,6 +29,54 @@ pub(crate) fn up_to_last_behind(layout: &Layout, missing: &[u64], readers: &[u32
         left -= 1;
     }
     0
+}
+
+/// Whether none of some readers reads behind all that is written, where they follow on one another: so all their spans are looked at in
+/// one go. Where others lie between them, it answers no.
+fn none_behind(layout: &Layout, missing: &[u64], readers: &[u32]) -> bool
+    requires layout { IsLayout layout.now }
+    requires readers { All (λ a. a < frame_count layout.now) readers.now }
+    requires missing { length missing.now ≡ length layout.now.writers }
+{
+    match spans_between(layout, readers) {
+        Some((first, end)) => !read_behind(missing, &layout.spans.as_slice()[first..end]),
+        None => false,
+    }
+}
+
+/// The numbers of the first span of some readers and of the one behind the last, where the readers follow on one another.
+fn spans_between(layout: &Layout, readers: &[u32]) -> Option<(usize, usize)>
+    requires { All (λ a. a < frame_count layout.now) readers.now }
+    ensures ordered { IfSome result (λ numbers. numbers.0 ≤ numbers.1) }
+    ensures within { IfSome result (λ numbers. numbers.1 ≤ length layout.now.spans) }
+{
+    let count = readers.len();
+    if count == 0 {
+        return None;
+    }
+    let first = readers[0] as usize;
+    let last = readers[count - 1] as usize;
+    if last != first + (count - 1) {
+        return None;
+    }
+    let starts = layout.starts.as_slice();
+    between(
+        starts[first] as usize,
+        starts[last + 1] as usize,
+        layout.spans.len(),
+    )
+}
+
+/// Two numbers, where they are in order and none is above so many.
+fn between(first: usize, end: usize, count: usize) -> Option<(usize, usize)>
+    ensures ordered { IfSome result (λ numbers. numbers.0 ≤ numbers.1) }
+    ensures within { IfSome result (λ numbers. numbers.1 ≤ count) }
+{
+    if first <= end && end <= count {
+        Some((first, end))
+    } else {
+        None
+    }
 }
 
 /// Marks those of the first so many readers that wait, the last one first: so a mark goes from each to those before it that wait for it.

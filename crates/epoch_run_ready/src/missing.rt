@@ -33,7 +33,7 @@ pub(crate) fn lower(missing: &mut [u64], spans: &[Span])
 }
 
 /// Lowers the position of a stream to where a span begins, if that writes to it.
-fn lower_one(missing: &mut [u64], span: Span)
+pub(crate) fn lower_one(missing: &mut [u64], span: Span)
     requires { span.stream < length missing.old }
     ensures length { length missing.new ≡ length missing.old }
     ensures lowered { (stream : ℕ) → slice_index missing.new stream ≡ lowered stream span (slice_index missing.old stream) }

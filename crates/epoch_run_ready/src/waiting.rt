@@ -1,10 +1,13 @@
-ghost use Rattle.std.specs.Prelude.{◌≡◌, ◌≢◌, ◌+◌, ◌^◌, ◌<◌, ◌≤◌, All, IfSome, false, length, max, true, slice_index_or};
+ghost use Rattle.std.specs.Prelude.{◌≡◌, ◌≢◌, ◌+◌, ◌^◌, ◌<◌, ◌≤◌, All, Bool, IfSome, List, false, length, max, true, slice_index, slice_index_or, ℕ};
 ghost use Rattle.stream_match_layouts.specs.Layout.{IsLayout};
 ghost use Rattle.stream_match_layouts.specs.Writers.{HasWriters, writers_on};
+ghost use Rattle.stream_match_layouts.specs.declared.layout.Layout.{Layout};
 ghost use Rattle.stream_match_layouts.specs.declared.span.Span.{Span};
+ghost use Rattle.epoch_run_ready.specs.Lowering.{lowered};
 ghost use Rattle.epoch_run_ready.specs.Waiting.{AreMissing, HasWaitingSpan, SpanWaits, written_until};
 
 use crate::marking::is_marked;
+use crate::missing::lower_one;
 use stream_match_layouts::{Layout, Span};
 
 /// Whether one of some spans reads behind all that is written, by the positions of the streams there.
@@ -18,6 +21,44 @@ pub(crate) fn read_behind(missing: &[u64], spans: &[Span]) -> bool
         }
     }
     false
+}
+
+/// Whether one of some spans reads behind all that is written.
+pub(crate) fn reads_unwritten(layout: &Layout, spans: &[Span]) -> bool
+    requires layout { IsLayout layout.now }
+    requires exist { All (λ (s : Span). s.stream < length layout.now.writers) spans.now }
+    requires small { All (λ (s : Span). s.first < 2 ^ 62) spans.now }
+{
+    for span in spans {
+        if !span.write && written_until(layout, span.stream) < span.first + u64::from(span.count) {
+            return true;
+        }
+    }
+    false
+}
+
+/// Whether a span reads the first position of its stream whose element is known not to come. One that writes, from an activation that
+/// waits, lowers that position.
+#[inline(always)]
+pub(crate) fn waits_or_lowers(missing: &mut [u64], span: Span) -> bool
+    requires { span.stream < length missing.old }
+    ensures waits { result ≡ true → (layout : Layout) (waits : List Bool) → AreMissing layout waits missing.old → SpanWaits layout waits span }
+    ensures length { length missing.new ≡ length missing.old }
+    ensures lowered { (stream : ℕ) → slice_index missing.new stream ≡ lowered stream span (slice_index missing.old stream) }
+{
+    if span.write {
+        lower_one(missing, span);
+        return false;
+    }
+    reads_at(missing, span)
+}
+
+/// Whether a span reads the first position of its stream whose element is known not to come.
+fn reads_at(missing: &[u64], span: Span) -> bool
+    requires { span.stream < length missing.now }
+    ensures { result ≡ true → (layout : Layout) (waits : List Bool) → AreMissing layout waits missing.now → SpanWaits layout waits span }
+{
+    !span.write && covers(span, missing[span.stream as usize])
 }
 
 /// Whether one of the spans of an activation reads an element that can't come.
@@ -156,7 +197,9 @@ fn is_written_at(layout: &Layout, span: Span, place: usize) -> bool
 }
 
 /// Whether a span covers a position.
-fn covers(span: Span, position: u64) -> bool {
+fn covers(span: Span, position: u64) -> bool
+    ensures { result ≡ true → (span.first ≤ position) × (position < span.first + span.count) }
+{
     span.first <= position && position - span.first < u64::from(span.count)
 }
 
