@@ -1,4 +1,5 @@
-ghost use Rattle.std.specs.Prelude.{◌≡◌, ◌≢◌, ◌<◌, ◌≤◌, ℕ, All, IfOk, IfSome, false, filter, if◌then◌else◌, length, not, slice_index, slice_index_or, slice_set, true};
+ghost use Rattle.std.specs.Prelude.{◌≡◌, ◌≢◌, ◌<◌, ◌≤◌, ℕ, All, IfOk, IfSome, false, filter, if◌then◌else◌};
+ghost use Rattle.std.specs.Prelude.{length, not, slice_index, slice_index_or, slice_set, true};
 ghost use Rattle.stream_match.specs.EpochCode.{Ascend};
 ghost use Rattle.stream_match_layouts.specs.Layout.{IsLayout};
 ghost use Rattle.stream_match_layouts.specs.Spans.{frame_count};
