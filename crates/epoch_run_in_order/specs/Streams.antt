@@ -1,5 +1,6 @@
 -- The elements that streams hold.
-use Rattle.std.specs.Prelude.{◌≡◌, ℕ, pos, ◌+◌, ◌-◌, ◌==◌, ◌≤◌, nat_le, if◌then◌else◌, List, [], Option, Some, None, length, slice_get, slice_index, slice_index_or}
+use Rattle.std.specs.Prelude.{◌≡◌, ℕ, pos, ◌+◌, ◌-◌, ◌==◌, ◌≤◌, nat_le, if◌then◌else◌, List, [], Option, Some, None}
+use Rattle.std.specs.Prelude.{length, slice_get, slice_index, slice_index_or}
 use Rattle.std.specs.Option.{option_map}
 use Rattle.flow_core_laws.specs.declared.elem.Elem.{Elem}
 use Rattle.flow_core_laws.specs.declared.elem.Elem.TheVariants.{Value}
