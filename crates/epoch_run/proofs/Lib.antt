@@ -9,3 +9,4 @@ pub mod Step
 pub mod Stretches
 pub mod LaidBehind
 pub mod Listing
+pub mod StillWaiting

@@ -1,10 +1,12 @@
 -- The activations that have no end, from one epoch to the next.
-use Rattle.std.proofs.Common.{◌≡◌, ℕ, zero, suc, ◌+◌, ◌<◌, ◌≤◌, List, [], ◌∷◌, ◌++◌, Option, Some, None, Bool, true, false, cond, length, refl, sym, ap, ◌∙◌, arith}
+use Rattle.std.proofs.Common.{◌≡◌, ℕ, zero, suc, ◌+◌, ◌<◌, ◌≤◌, List, [], ◌∷◌, ◌++◌, Option, Some, None, Bool, true, false, cond, inl, inr, length, refl, sym, ap, ◌∙◌, arith}
 use Rattle.std.specs.Prelude.{filter, is_none, is_some, slice_get}
 use Rattle.std.specs.Option.{option_map_or}
+use Rattle.std.specs.List.{range_with_len}
+use Rattle.std.proofs.lemmas.Bool.{cases_lt}
 use Rattle.std.proofs.lemmas.List.{get_or_past}
-use Rattle.std.proofs.lemmas.List.Elements.{filter-append}
-use Rattle.std.proofs.lemmas.List.FromFn.{get_or-map-range_with_len}
+use Rattle.std.proofs.lemmas.List.Elements.{filter-append, filter_agree}
+use Rattle.std.proofs.lemmas.List.FromFn.{get_or-map-range_with_len, length-map-range_with_len}
 use Rattle.flow_core_epochs.proofs.Frames.{numbers_back, open_all}
 use Rattle.flow_core_epochs.proofs.Putting.{open_more, open_with}
 use Rattle.flow_core_epochs.specs.Epoch.{number_in, open_in, put_over}
@@ -76,3 +78,27 @@ all_ended ends listed are none a lt = by (outcome_at ends a) refl
         let (f, at) = open_all ends (length ends) a lt is in
         let no : Some a ≡ None = sym at ∙ ap (λ xs. slice_get xs f) (sym are ∙ empty listed none) in
         absurd (cc)
+
+-- where none ran, all are left
+pub none_ended : {O : Type 0} (ends : List (Option O)) (frames : List ℕ) (run after : List (Option O)) (readers : List ℕ) (count : ℕ)
+    → length ends ≤ count → readers ≡ open_in ends count → after ≡ put_over ends frames run count → frames ≡ []
+    → readers ≡ filter (λ a. is_none (outcome_at after a)) readers
+none_ended {O = O} ends frames run after readers count few are put none =
+    are ∙ sym (filter_agree (λ a. is_none (outcome_at after a)) (λ a. is_none (outcome_at ends a)) (λ a. ap is_none (same a)) (range_with_len 0 count))
+    ∙ sym (still_listed ends frames run after readers count (λ f a h. absurd (let no : Some a ≡ None = sym h ∙ ap (λ xs. slice_get xs f) none in cc)) are put)
+  where
+    none_put : after ≡ put_over ends [] run count
+    none_put = put ∙ ap (λ fs. put_over ends fs run count) none
+
+    same : (a : ℕ) → outcome_at after a ≡ outcome_at ends a
+    same a = elim (cases_lt a count) [
+      | inl lt ↦ (
+          ap (λ (es : List (Option O)). outcome_at es a) none_put
+          ∙ get_or-map-range_with_len (λ b. option_map_or (outcome_at run) (number_in [] b) (outcome_at ends b)) 0 count a a None lt (omega arith)
+          )
+      | inr ge ↦ (
+          ap (λ (es : List (Option O)). outcome_at es a) none_put
+          ∙ get_or_past (put_over ends [] run count) a None (omega (arith, ge, length-map-range_with_len (λ b. option_map_or (outcome_at run) (number_in [] b) (outcome_at ends b)) 0 count))
+          ∙ sym (get_or_past ends a None (omega (arith, ge, few)))
+          )
+    ]

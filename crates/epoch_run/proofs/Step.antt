@@ -34,6 +34,7 @@ use Rattle.flow_core_laws.specs.declared.ends.Ends.{Ends}
 use Rattle.flow_core_laws.specs.declared.outcome.Outcome.{Outcome}
 use Rattle.flow_core_laws.specs.declared.plan.Plan.{Plan}
 use Rattle.flow_core_laws.specs.declared.task_end.TaskEnd.{TaskEnd}
+use Rattle.os_code.specs.declared.code.Code.{Code}
 use Rattle.os_code.specs.declared.parts.Parts.{Parts}
 use Rattle.stream_match.specs.EpochPlan.{AreFrames}
 use Rattle.stream_match.specs.Kept.{IsKeptOutside, kept_of}
@@ -46,7 +47,7 @@ use Rattle.stream_match_layouts.specs.Spans.{frame_count}
 use Rattle.stream_match_layouts.specs.declared.layout.Layout.{Layout}
 use Rattle.epoch_run.proofs.Frames.{all_exist, are_frames, kept_exist, places_exist}
 use Rattle.epoch_run.specs.Bodies.{HaveOpen, IsAmong}
-use Rattle.epoch_run.specs.Held.{IsHeldBefore, IsHeldOf}
+use Rattle.epoch_run.specs.Held.{IsHeldBefore, IsHeldOf, IsOpenEpoch, listed}
 use Rattle.epoch_run.specs.declared.held.Held.{Held}
 use Rattle.epoch_run.specs.declared.open_bodies.OpenBodies.{OpenBodies}
 
@@ -96,6 +97,19 @@ stays code activations input budget held count all is no_more = subst (λ (xs : 
         let l = ap length is.are_all ∙ length-append is.before is.new in
         let ge = ltb-false (length held.ends.ends) count no_more in
         omega (arith, e, l, ge, all)
+
+-- an epoch is as open where the list of those without end was taken
+pub open_listed : (code : Code) (activations : List Activation) (budget : ℕ) (layout : Layout) (input : List ℕ) (held after : Held) → after ≡ record held { without_end = [] }
+    → IsOpenEpoch code activations budget layout input held → IsOpenEpoch code activations budget layout input (listed after)
+open_listed code activations budget layout input held after same o = subst (λ (h : Held). IsOpenEpoch code activations budget layout input (listed h)) (sym same) (record {
+  small = o.small;
+  fit = o.fit;
+  lawful = o.lawful;
+  whole = o.whole;
+  laid = o.laid;
+  over = o.over;
+  stands = record { before = o.stands.before; new = o.stands.new; are_all = o.stands.are_all; meant = record { is_meant = o.stands.meant.is_meant; are_open = refl } };
+})
 
 -- what has ended stays so
 pub stays_ended : (code : Parts) (activations : List Activation) (input : List ℕ) (budget : ℕ) (held after : Held) → LaterActivationsChangeNothing

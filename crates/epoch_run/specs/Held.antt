@@ -18,6 +18,10 @@ pub record IsHeldOf (code : Parts) (activations : List Activation) (input : List
   pub is_meant : IsHeld activations input (frame_outcome code activations budget) held.ends.ends (map kept_of held.kept.items) held.ends.output
   pub are_open : held.without_end ≡ open_in held.ends.ends (length held.ends.ends)
 
+-- what is held, with those of its activations listed that have no end
+abbrev pub listed : Held → Held
+listed held = record held { without_end = open_in held.ends.ends (length held.ends.ends) }
+
 -- it is what some of the activations mean, those before an epoch
 pub record IsHeldBefore (code : Parts) (activations : List Activation) (input : List ℕ) (budget : ℕ) (held : Held) : Type 0 where
   pub before : List Activation

@@ -90,8 +90,23 @@ fn advance_and_lay_out(
     Ok(())
 }
 
-/// Has the control program create the new activations of an epoch, stretch by stretch.
+/// Has the control program create the new activations of an epoch. Room for all that it may have is taken before, so that none of
+/// them is moved.
 pub(crate) fn advance(
+    control: &mut ControlRun<'_>,
+    next: &mut List<Activation>,
+    size: EpochSize,
+) -> Result<(), Memory>
+    requires { 1 ≤ size.activations }
+    ensures { OnOk result (HasAdvanced size.activations control.old control.new next.old next.new) }
+{
+    next.reserve(size.activations as usize)?;
+    create_stretches(control, next, size)?;
+    Ok(())
+}
+
+/// Has the control program create the new activations of an epoch, stretch by stretch.
+fn create_stretches(
     control: &mut ControlRun<'_>,
     next: &mut List<Activation>,
     size: EpochSize,

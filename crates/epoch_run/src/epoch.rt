@@ -1,4 +1,4 @@
-ghost use Rattle.std.specs.Prelude.{◌≡◌, ◌+◌, ◌^◌, ◌<◌, ◌≤◌, All, IfOk, OnOk, length, map, nat_lt, slice_index};
+ghost use Rattle.std.specs.Prelude.{◌≡◌, [], ◌+◌, ◌^◌, ◌<◌, ◌≤◌, All, IfOk, OnOk, length, map, nat_lt, slice_index};
 ghost use Rattle.std.specs.List.{flat_map};
 ghost use Rattle.flow_core_laws.specs.IsSound.{IsSound};
 ghost use Rattle.flow_core_laws.specs.Outcome.{ends_of};
@@ -12,7 +12,7 @@ ghost use Rattle.stream_match.specs.declared.stretch.Stretch.{Stretch};
 ghost use Rattle.stream_match_layouts.specs.Layout.{IsLayout};
 ghost use Rattle.stream_match_layouts.specs.Spans.{frame_count};
 ghost use Rattle.epoch_run.specs.Bodies.{HaveOpen, all_of};
-ghost use Rattle.epoch_run.specs.Held.{IsHeldOf, IsOpenEpoch};
+ghost use Rattle.epoch_run.specs.Held.{IsHeldOf, IsOpenEpoch, listed};
 
 use crate::held::Held;
 use crate::open_bodies::OpenBodies;
@@ -21,12 +21,13 @@ use crate::plan::run_plan;
 use crate::unended::with_new;
 use epoch_run_bodies::CountedBodies;
 use epoch_run_bodies::laws::{bodies_serve, later_activations_change_nothing};
-use epoch_run_ready::ready_frames;
+use epoch_run_ready::{newest_wait, ready_frames};
 use flow_core_epochs::FrameBodies;
 use flow_core_epochs::laws::run_in_epochs;
 use flow_core_laws::{Bodies, Ends, Plan};
 use os_io::{List, Memory};
 use std::alloc::Global;
+use std::mem;
 use std::sync::atomic::{AtomicU64, Ordering};
 use std::thread::Threads;
 use stream_match::{EpochPlan, Layout, build_ready};
@@ -82,7 +83,7 @@ fn run_open<R: Threads + Sync, G: Gate>(
     ensures { OnOk result (IsHeldOf (parts_of bodies.now.code.now) (all_of bodies.now) input.now bodies.now.budgets.task held.new) }
 {
     let readers = open_activations(alloc, layout, held)?;
-    let frames = ready_frames(alloc, layout, readers.as_slice())?;
+    let frames = frames_of(alloc, bodies, layout, input, readers.as_slice(), held)?;
     run_these(
         rt,
         alloc,
@@ -91,26 +92,45 @@ fn run_open<R: Threads + Sync, G: Gate>(
         input,
         workers,
         gate,
-        readers.as_slice(),
+        readers,
         frames.as_slice(),
         held,
     )
 }
 
-/// The activations of a layout that have no end yet.
-fn open_activations(alloc: Global, layout: &Layout, held: &Held) -> Result<List<u32>, Memory>
+/// The activations of a layout that have no end yet. The list of those that had none before is taken for it.
+fn open_activations(alloc: Global, layout: &Layout, held: &mut Held) -> Result<List<u32>, Memory>
     requires layout { IsLayout layout.now }
-    requires listed { held.now.without_end ≡ open_in held.now.ends.ends (length held.now.ends.ends) }
-    requires more { length held.now.ends.ends ≤ frame_count layout.now }
-    ensures { IfOk result (λ frames. frames ≡ open_in held.now.ends.ends (frame_count layout.now)) }
+    requires listed { held.old.without_end ≡ open_in held.old.ends.ends (length held.old.ends.ends) }
+    requires more { length held.old.ends.ends ≤ frame_count layout.now }
+    ensures readers { IfOk result (λ readers. readers ≡ open_in held.old.ends.ends (frame_count layout.now)) }
+    ensures same { OnOk result (held.new ≡ record held.old { without_end = [] }) }
 {
-    let listed = held.without_end.as_slice();
-    let frames = with_new(
-        alloc,
-        listed,
-        held.ends.ends.as_slice(),
-        layout.frames() as u32,
-    )?;
+    let listed = mem::replace(&mut held.without_end, List::new(alloc));
+    let readers = with_new(listed, held.ends.ends.as_slice(), layout.frames() as u32)?;
+    Ok(readers)
+}
+
+/// The frames of an epoch: of the activations that have no end yet those that don't wait, and none where all new ones wait.
+fn frames_of(
+    alloc: Global,
+    bodies: &OpenBodies<'_>,
+    layout: &Layout,
+    input: &[u8],
+    readers: &[u32],
+    held: &Held,
+) -> Result<List<u32>, Memory>
+    requires open { IsOpenEpoch bodies.now.code.now (all_of bodies.now) bodies.now.budgets.task layout.now input.now (listed held.now) }
+    requires readers { readers.now ≡ open_in held.now.ends.ends (frame_count layout.now) }
+    ensures { IfOk result (λ frames. LeaveOutWaiting (all_of bodies.now) input.now held.now.ends.ends frames) }
+{
+    bodies_serve();
+    later_activations_change_nothing();
+    let wait = newest_wait(alloc, layout, held.ends.ends.len())?;
+    if wait {
+        return Ok(List::new(alloc));
+    }
+    let frames = ready_frames(alloc, layout, readers)?;
     Ok(frames)
 }
 
@@ -123,21 +143,29 @@ fn run_these<R: Threads + Sync, G: Gate>(
     input: &[u8],
     workers: u32,
     gate: &G,
-    readers: &[u32],
+    readers: List<u32>,
     frames: &[u32],
     held: &mut Held,
 ) -> Result<(), Memory>
     requires workers { (1 ≤ workers) × (workers ≤ 64) }
-    requires open { IsOpenEpoch bodies.now.code.now (all_of bodies.now) bodies.now.budgets.task layout.now input.now held.old }
+    requires open { IsOpenEpoch bodies.now.code.now (all_of bodies.now) bodies.now.budgets.task layout.now input.now (listed held.old) }
     requires there { HaveOpen bodies.now held.old.ends.ends }
-    requires readers { readers.now ≡ open_in held.old.ends.ends (frame_count layout.now) }
+    requires readers { readers ≡ open_in held.old.ends.ends (frame_count layout.now) }
     requires frames { LeaveOutWaiting (all_of bodies.now) input.now held.old.ends.ends frames.now }
     ensures { OnOk result (IsHeldOf (parts_of bodies.now.code.now) (all_of bodies.now) input.now bodies.now.budgets.task held.new) }
 {
     run_in_epochs();
     bodies_serve();
     later_activations_change_nothing();
-    let epoch = plan_these(alloc, bodies, layout, input, readers, frames, held)?;
+    let epoch = plan_these(
+        alloc,
+        bodies,
+        layout,
+        input,
+        readers.as_slice(),
+        frames,
+        held,
+    )?;
     let run = run_frames(
         rt,
         alloc,
@@ -169,7 +197,7 @@ fn plan_these(
     frames: &[u32],
     held: &Held,
 ) -> Result<EpochPlan, Memory>
-    requires open { IsOpenEpoch bodies.now.code.now (all_of bodies.now) bodies.now.budgets.task layout.now input.now held.now }
+    requires open { IsOpenEpoch bodies.now.code.now (all_of bodies.now) bodies.now.budgets.task layout.now input.now (listed held.now) }
     requires readers { readers.now ≡ open_in held.now.ends.ends (frame_count layout.now) }
     requires frames { LeaveOutWaiting (all_of bodies.now) input.now held.now.ends.ends frames.now }
     ensures sound { IfOk result (λ epoch. IsSound epoch.plan) }

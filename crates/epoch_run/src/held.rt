@@ -59,13 +59,13 @@ impl Held {
         &mut self,
         alloc: Global,
         layout: &Layout,
-        readers: &[u32],
+        readers: List<u32>,
         frames: &[u32],
         leaves: &[Stretch],
         run: &Ends,
     ) -> Result<(), Memory>
         requires layout { IsLayout layout.now }
-        requires readers { readers.now ≡ open_in self.old.ends.ends (frame_count layout.now) }
+        requires readers { readers ≡ open_in self.old.ends.ends (frame_count layout.now) }
         requires frames { AreFrames layout.now frames.now }
         requires are_open { (f a : ℕ) → slice_get frames.now f ≡ Some a → outcome_at self.old.ends.ends a ≡ None }
         requires ends_fit { length run.now.ends ≡ length frames.now }
@@ -93,13 +93,13 @@ impl Held {
         &mut self,
         alloc: Global,
         layout: &Layout,
-        readers: &[u32],
+        readers: List<u32>,
         frames: &[u32],
         leaves: &[Stretch],
         run: &Ends,
     ) -> Result<(), Memory>
         requires layout { IsLayout layout.now }
-        requires readers { readers.now ≡ open_in self.old.ends.ends (frame_count layout.now) }
+        requires readers { readers ≡ open_in self.old.ends.ends (frame_count layout.now) }
         requires frames { AreFrames layout.now frames.now }
         requires are_open { (f a : ℕ) → slice_get frames.now f ≡ Some a → outcome_at self.old.ends.ends a ≡ None }
         requires ends_fit { length run.now.ends ≡ length frames.now }
@@ -131,7 +131,7 @@ impl Held {
             leaves,
             run.output.as_slice(),
         )?;
-        self.without_end = still_open(alloc, readers, self.ends.ends.as_slice())?;
+        self.without_end = still_open(alloc, readers, frames, self.ends.ends.as_slice())?;
         carry_over(
             alloc,
             layout,

@@ -1,6 +1,6 @@
 //! Listing the activations that have no end: so an epoch looks at these and at the new ones alone.
 
-ghost use Rattle.std.specs.Prelude.{◌≡◌, ◌≤◌, IfOk, filter, is_none, length};
+ghost use Rattle.std.specs.Prelude.{◌≡◌, ◌≤◌, [], IfOk, filter, is_none, length};
 ghost use Rattle.flow_core_laws.specs.Outcome.{outcome_at};
 ghost use Rattle.flow_core_epochs.specs.Epoch.{open_in};
 
@@ -11,26 +11,40 @@ use std::alloc::Global;
 /// The activations below a number that have no end: those that were listed when the ends were put, and behind them the new
 /// ones.
 pub(crate) fn with_new(
-    alloc: Global,
-    listed: &[u32],
+    mut listed: List<u32>,
     ends: &[Option<TaskEnd>],
     count: u32,
 ) -> Result<List<u32>, Memory>
-    requires listed { listed.now ≡ open_in ends.now (length ends.now) }
+    requires listed { listed ≡ open_in ends.now (length ends.now) }
     requires more { length ends.now ≤ count }
     ensures { IfOk result (λ all. all ≡ open_in ends.now count) }
 {
     let first = ends.len() as u32;
-    let mut all = List::from_slice(alloc, listed)?;
-    all.reserve((count - first) as usize)?;
+    listed.reserve((count - first) as usize)?;
     for activation in first..count {
-        all.push(activation)?;
+        listed.push(activation)?;
     }
-    Ok(all)
+    Ok(listed)
+}
+
+/// Those of some activations that have no end. They are all of them, where none ran.
+pub(crate) fn still_open(
+    alloc: Global,
+    activations: List<u32>,
+    frames: &[u32],
+    ends: &[Option<TaskEnd>],
+) -> Result<List<u32>, Memory>
+    requires { frames.now ≡ [] → activations ≡ filter (λ a. is_none (outcome_at ends.now a)) activations }
+    ensures { IfOk result (λ left. left ≡ filter (λ a. is_none (outcome_at ends.now a)) activations) }
+{
+    if frames.is_empty() {
+        return Ok(activations);
+    }
+    without_end(alloc, activations.as_slice(), ends)
 }
 
 /// Those of some activations that have no end.
-pub(crate) fn still_open(
+fn without_end(
     alloc: Global,
     activations: &[u32],
     ends: &[Option<TaskEnd>],

@@ -1,30 +1,12 @@
-use Rattle.std.proofs.Common.{◌<◌, ◌∙◌, ℕ, List, All, subst, sym}
-use Rattle.flow_core_epochs.proofs.Carried.{has_all}
-use Rattle.flow_core_epochs.proofs.Frames.{open_each}
+use Rattle.std.proofs.Common.{◌≡◌, ◌∙◌, [], List, Option, ap, subst, sym, ℕ}
 use Rattle.flow_core_epochs.specs.Epoch.{LeaveOutWaiting, open_in}
-use Rattle.stream_match_layouts.specs.Spans.{frame_count}
+use Rattle.flow_core_laws.specs.declared.task_end.TaskEnd.{TaskEnd}
 use Rattle.os_code.specs.Codes.{parts_of}
-use Rattle.epoch_run.specs.Bodies.{all_of}
-use Rattle.epoch_run.proofs.Step.{held_fewer}
+use Rattle.stream_match_layouts.specs.Spans.{frame_count}
+use Rattle.epoch_run.specs.Bodies.{HaveOpen, all_of}
+use Rattle.epoch_run.specs.declared.held.Held.{Held}
+use Rattle.epoch_run.proofs.Step.{held_fewer, open_listed}
 use Rattle.epoch_run.proofs.epoch.run_open.Goals as goal
-
-pub ready_frames-requires-clause-readers : goal.ready_frames-requires-clause-readers
-ready_frames-requires-clause-readers g c =
-    let es = c.args.held.now.ends.ends in
-    let n : ℕ = frame_count c.args.layout.now in
-    subst (λ (xs : List ℕ). All (λ a. a < n) xs) (sym (c.as_slice.ensures ∙ c.in_ok-readers.ensures))
-    (has_all (λ a. a < n) (open_in es n) (λ a h. let (f, at) = h in (open_each es n f a at).0))
-
-pub run_these-requires-clause-readers : goal.run_these-requires-clause-readers
-run_these-requires-clause-readers g c κs within = c.as_slice-2.ensures ∙ c.in_ok-readers.ensures
-
-pub run_these-requires-clause-frames : goal.run_these-requires-clause-frames
-run_these-requires-clause-frames g c κs within =
-    let o = c.requires.open in
-    let activations = all_of c.args.bodies.now in
-    let input = c.args.input.now in
-    subst (LeaveOutWaiting activations input c.args.held.now.ends.ends) (sym c.as_slice-3.ensures)
-    (c.in_ok-frames.ensures activations input c.args.held.now.ends.ends o.laid (sym o.over) (c.as_slice.ensures ∙ c.in_ok-readers.ensures))
 
 pub open_activations-requires-clause-listed : goal.open_activations-requires-clause-listed
 open_activations-requires-clause-listed g c = c.requires.open.stands.meant.are_open
@@ -34,3 +16,31 @@ open_activations-requires-clause-more g c =
     let b = c.args.bodies.now in
     let o = c.requires.open in
     held_fewer c.args.layout.now (parts_of b.code.now) (all_of b) c.args.input.now b.budgets.task c.args.held.now o.stands o.laid
+
+pub frames_of-requires-clause-open : goal.frames_of-requires-clause-open
+frames_of-requires-clause-open g c =
+    let b = c.args.bodies.now in
+    open_listed b.code.now (all_of b) b.budgets.task c.args.layout.now c.args.input.now c.args.held.now c.open_activations.new.held c.in_ok-readers.ensures.same c.requires.open
+
+pub frames_of-requires-clause-readers : goal.frames_of-requires-clause-readers
+frames_of-requires-clause-readers g c =
+    c.as_slice.ensures ∙ c.in_ok-readers.ensures.readers
+    ∙ ap (λ (es : List (Option TaskEnd)). open_in es (frame_count c.args.layout.now)) (sym (ap (λ (h : Held). h.ends.ends) c.in_ok-readers.ensures.same))
+
+pub run_these-requires-clause-open : goal.run_these-requires-clause-open
+run_these-requires-clause-open g c κs within =
+    let b = c.args.bodies.now in
+    open_listed b.code.now (all_of b) b.budgets.task c.args.layout.now c.args.input.now c.args.held.now c.open_activations.new.held c.in_ok-readers.ensures.same c.requires.open
+
+pub run_these-requires-clause-there : goal.run_these-requires-clause-there
+run_these-requires-clause-there g c κs within =
+    subst (λ (es : List (Option TaskEnd)). HaveOpen c.args.bodies.now es) (sym (ap (λ (h : Held). h.ends.ends) c.in_ok-readers.ensures.same)) c.requires.there
+
+pub run_these-requires-clause-readers : goal.run_these-requires-clause-readers
+run_these-requires-clause-readers g c κs within =
+    c.in_ok-readers.ensures.readers
+    ∙ ap (λ (es : List (Option TaskEnd)). open_in es (frame_count c.args.layout.now)) (sym (ap (λ (h : Held). h.ends.ends) c.in_ok-readers.ensures.same))
+
+pub run_these-requires-clause-frames : goal.run_these-requires-clause-frames
+run_these-requires-clause-frames g c κs within =
+    subst (LeaveOutWaiting (all_of c.args.bodies.now) c.args.input.now c.open_activations.new.held.ends.ends) (sym c.as_slice-2.ensures) c.in_ok-frames.ensures

@@ -5,5 +5,5 @@ use Rattle.epoch_run.proofs.unended.with_new.Given as goal
 abbrev pub invariant-loop-activation : goal.invariant-loop-activation
 invariant-loop-activation l = record {
   past : length l.ends ≤ l.activation;
-  same : l.all ≡ open_in l.ends l.activation;
+  same : l.listed ≡ open_in l.ends l.activation;
 }

@@ -9,7 +9,7 @@ use Rattle.stream_match.specs.Kept.{kept_of}
 use Rattle.stream_match.specs.Stretch.{stretch_places}
 use Rattle.stream_match_layouts.specs.Spans.{frame_count}
 use Rattle.epoch_run.proofs.Frames.{all_exist, are_frames, frames_differ}
-use Rattle.epoch_run.proofs.Listing.{still_listed}
+use Rattle.epoch_run.proofs.Listing.{none_ended, still_listed}
 use Rattle.epoch_run.proofs.held.Held.take_joined.Goals as goal
 
 pub carry_over-requires-clause-exist : goal.carry_over-requires-clause-exist
@@ -17,7 +17,7 @@ carry_over-requires-clause-exist c =
     let layout = c.args.layout.now in
     let old = c.args.self.now.ends.ends in
     let frames : List ℕ = c.args.frames.now in
-    let readers : List ℕ = c.args.readers.now in
+    let readers : List ℕ = c.args.readers in
     let count : ℕ = frame_count layout in
     let after : List (Option TaskEnd) = c.take_ends.new.ends in
     let put : after ≡ put_over old frames c.args.run.now.ends count =
@@ -32,7 +32,7 @@ returns-clause-without_end c =
     let layout = c.args.layout.now in
     let old = c.args.self.now.ends.ends in
     let frames : List ℕ = c.args.frames.now in
-    let readers : List ℕ = c.args.readers.now in
+    let readers : List ℕ = c.args.readers in
     let count : ℕ = frame_count layout in
     let after : List (Option TaskEnd) = c.take_ends.new.ends in
     let put : after ≡ put_over old frames c.args.run.now.ends count =
@@ -45,7 +45,7 @@ returns-clause-kept c = λ activations of.
     let layout = c.args.layout.now in
     let old = c.args.self.now.ends.ends in
     let frames : List ℕ = c.args.frames.now in
-    let readers : List ℕ = c.args.readers.now in
+    let readers : List ℕ = c.args.readers in
     let count : ℕ = frame_count layout in
     let after : List (Option TaskEnd) = c.take_ends.new.ends in
     let put : after ≡ put_over old frames c.args.run.now.ends count =
@@ -59,3 +59,16 @@ returns-clause-kept c = λ activations of.
 
 pub take_ends-requires-clause-differ : goal.take_ends-requires-clause-differ
 take_ends-requires-clause-differ c = frames_differ c.args.layout.now c.args.frames.now c.requires.frames
+
+pub still_open-requires : goal.still_open-requires
+still_open-requires c = λ none.
+    let layout = c.args.layout.now in
+    let old = c.args.self.now.ends.ends in
+    let frames : List ℕ = c.args.frames.now in
+    let readers : List ℕ = c.args.readers in
+    let count : ℕ = frame_count layout in
+    let after : List (Option TaskEnd) = c.take_ends.new.ends in
+    let put : after ≡ put_over old frames c.args.run.now.ends count =
+    c.in_ok-take_ends.ensures ∙ ap (λ (rs : List (Option TaskEnd)). put_over old frames rs c.frames.result) c.as_slice.ensures ∙ ap (put_over old frames c.args.run.now.ends) c.frames.ensures in
+    subst (λ (es : List (Option TaskEnd)). readers ≡ filter (λ a. is_none (outcome_at es a)) readers) (sym c.as_slice-4.ensures)
+    (none_ended old frames c.args.run.now.ends after readers count c.requires.more c.requires.readers put none)

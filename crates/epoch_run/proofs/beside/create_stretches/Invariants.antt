@@ -2,7 +2,7 @@ use Rattle.std.proofs.Common.{◌≡◌, ◌+◌, ◌-◌, ◌≤◌, length}
 use Rattle.std.specs.Prelude.{nat_lt}
 use Rattle.control_run.specs.Stretches.{remaining}
 use Rattle.epoch_run.specs.Standing.{HasCreated}
-use Rattle.epoch_run.proofs.beside.advance.Given as goal
+use Rattle.epoch_run.proofs.beside.create_stretches.Given as goal
 
 abbrev pub invariant-stretches : goal.invariant-stretches
 invariant-stretches l = record {

@@ -3,7 +3,7 @@ use Rattle.std.specs.Prelude.{nat_lt}
 use Rattle.control_run.specs.Stretches.{remaining}
 use Rattle.epoch_run.specs.Standing.{HasCreated}
 use Rattle.epoch_run.proofs.Stretches.{fewer, goes_on}
-use Rattle.epoch_run.proofs.beside.advance.Goals as goal
+use Rattle.epoch_run.proofs.beside.create_stretches.Goals as goal
 
 pub stretches-init : goal.stretches-init
 stretches-init c =
