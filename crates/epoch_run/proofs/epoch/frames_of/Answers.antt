@@ -1,4 +1,5 @@
-use Rattle.std.proofs.Common.{◌<◌, ◌∙◌, All, List, ap, length, refl, subst, sym, ℕ}
+use Rattle.std.proofs.Common.{◌<◌, All, List, subst, sym, ℕ}
+use Rattle.epoch_run_ready.specs.Newest.{WaitFrom}
 use Rattle.flow_core_epochs.proofs.Carried.{has_all}
 use Rattle.flow_core_epochs.proofs.Frames.{open_each}
 use Rattle.flow_core_epochs.specs.Epoch.{LeaveOutWaiting, open_in}
@@ -26,7 +27,7 @@ returns-then-wait c =
     subst (LeaveOutWaiting activations c.args.input.now es) (sym c.new.ensures)
     (none_may_run code activations c.args.input.now b.budgets.task (listed c.args.held.now) c.later_activations_change_nothing.ensures o.stands
     (c.bodies_serve.ensures.parts code activations b.budgets.task b.code.now.valid o.fit o.small)
-    (c.in_ok-wait.ensures c.if-wait.true activations c.args.input.now es o.laid (sym o.over) (sym c.len.ensures)))
+    (subst (WaitFrom activations c.args.input.now es) c.len.ensures (c.in_ok-wait.ensures c.if-wait.true activations c.args.input.now es o.laid (sym o.over) (sym c.len.ensures))))
 
 pub returns : goal.returns
 returns c =

@@ -1,4 +1,4 @@
-use Rattle.std.proofs.Common.{◌≡◌, ◌∙◌, [], List, Option, ap, subst, sym, ℕ}
+use Rattle.std.proofs.Common.{◌∙◌, List, Option, ap, subst, sym}
 use Rattle.flow_core_epochs.specs.Epoch.{LeaveOutWaiting, open_in}
 use Rattle.flow_core_laws.specs.declared.task_end.TaskEnd.{TaskEnd}
 use Rattle.os_code.specs.Codes.{parts_of}

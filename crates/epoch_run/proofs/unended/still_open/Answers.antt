@@ -1,4 +1,4 @@
-use Rattle.std.proofs.Common.{◌≡◌, length, rules, ℕ}
+use Rattle.std.proofs.Common.{◌≡◌, length, rules}
 use Rattle.std.proofs.lemmas.List.{nil_from_length}
 use Rattle.epoch_run.proofs.unended.still_open.Goals as goal
 
