@@ -22,17 +22,10 @@ use crate::names::Seen;
 use crate::stop::Stop;
 use c_int::{ControlLimit, Trap};
 use cddf_meaning::{Aim, Binding, Ending, Move, Variable};
-use flow_core_laws::{Activation, Claim};
+use flow_core_laws::{ACTIVATIONS_LIMIT, Activation, Claim, HORIZON_LIMIT, POSITIONS_LIMIT};
 use os_io::{List, Memory};
 use std::alloc::Global;
 use std::marker::Model;
-
-/// A window has no larger horizon.
-const WINDOW_LIMIT: u32 = 65_536;
-/// So many activations may be created.
-const ACTIVATIONS_LIMIT: usize = 65_536;
-/// The horizons of all claims may have this sum.
-const HORIZONS_LIMIT: u64 = 4_194_304;
 
 /// The numbers of a stream or an array of streams.
 #[derive(Clone, Copy, Debug, PartialEq, Eq)]
@@ -423,7 +416,7 @@ impl BodyState {
             (and_then (window_size line size) (λ horizon. Ok (states.declared id unsigned (variables.Window horizon) self.old))) }
     {
         match u32::try_from(size) {
-            Ok(horizon) if 1 <= horizon && horizon <= WINDOW_LIMIT => {
+            Ok(horizon) if 1 <= horizon && horizon <= HORIZON_LIMIT => {
                 self.declare(id, unsigned, Variable::Window(horizon))?;
                 Ok(())
             }
@@ -477,10 +470,10 @@ impl BodyState {
     pub fn look_at_limits(&self, claims: &[Claim]) -> Result<(), Stop>
         ensures { Limits result (limit self.now.activations claims.now) }
     {
-        if self.activations.len() >= ACTIVATIONS_LIMIT {
+        if self.activations.len() >= ACTIVATIONS_LIMIT as usize {
             return Err(Stop::Ended(Ending::Limited(ControlLimit::Activations)));
         }
-        if self.horizons.saturating_add(horizons(claims)) > HORIZONS_LIMIT {
+        if self.horizons.saturating_add(horizons(claims)) > POSITIONS_LIMIT as u64 {
             return Err(Stop::Ended(Ending::Limited(ControlLimit::Elements)));
         }
         Ok(())

@@ -3,8 +3,7 @@
 ghost use Rattle.std.specs.Prelude.{◌≡◌};
 ghost use Rattle.cddf_meaning.specs.Run.{array_size};
 
-/// The greatest size of a local array or of a stream array.
-const SIZE_LIMIT: u32 = 65_536;
+use os_ast::SIZE_LIMIT;
 
 /// The size of a local array or of a stream array, from 1 to 65,536 elements or streams; 0 where the number is no size.
 pub fn array_size(number: i32) -> u32

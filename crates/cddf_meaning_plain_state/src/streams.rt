@@ -10,13 +10,10 @@ use crate::body_state::BodyState;
 use crate::names::scalar;
 use crate::stop::Stop;
 use c_int::Trap;
-use flow_core_laws::Claim;
+use flow_core_laws::{Claim, MOVE_LIMIT};
 use os_ast::{Direction, Item};
 use os_io::List;
 use std::alloc::Global;
-
-/// A cursor moves by no more.
-const MOVE_LIMIT: u32 = 65_536;
 
 /// By how much a cursor moves, 0 to 65,536 positions, with the line that a trap has.
 pub fn cursor_move(line: u32, number: i32) -> Result<u32, Stop>

@@ -3,6 +3,7 @@ ghost use Rattle.control_run.specs.Spawning.{limit_of};
 
 use crate::ticked::Ticked;
 use c_int::ControlLimit;
+use flow_core_laws::{ACTIVATIONS_LIMIT, POSITIONS_LIMIT};
 use os_io::Memory;
 use std::alloc::Global;
 
@@ -34,9 +35,9 @@ impl Made {
         requires { self.now.horizons + horizons < 2 ^ 32 }
         ensures { result ≡ limit_of self.now.created (self.now.horizons + horizons) }
     {
-        if self.created >= 65536 {
+        if self.created >= ACTIVATIONS_LIMIT {
             Some(ControlLimit::Activations)
-        } else if self.horizons + horizons > 4194304 {
+        } else if self.horizons + horizons > POSITIONS_LIMIT {
             Some(ControlLimit::Elements)
         } else {
             None

@@ -2,12 +2,14 @@ ghost use Rattle.std.specs.Prelude.{◌≡◌};
 ghost use Rattle.c_int.specs.Operators as operator;
 ghost use Rattle.os_code.specs.Machine as machine;
 
+use flow_core_laws::{HORIZON_LIMIT, MOVE_LIMIT};
+
 /// A window's size: 1 to 65,536.
 #[inline(always)]
 pub(crate) fn size_of(number: i32) -> Option<u32>
     ensures { result ≡ machine.size_of number }
 {
-    if number >= 1 && number <= 65536 {
+    if number >= 1 && number <= HORIZON_LIMIT as i32 {
         Some(number as u32)
     } else {
         None
@@ -19,7 +21,7 @@ pub(crate) fn size_of(number: i32) -> Option<u32>
 pub(crate) fn amount_of(number: i32) -> Option<u32>
     ensures { result ≡ machine.amount_of number }
 {
-    if number >= 0 && number <= 65536 {
+    if number >= 0 && number <= MOVE_LIMIT as i32 {
         Some(number as u32)
     } else {
         None

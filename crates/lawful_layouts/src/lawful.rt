@@ -6,19 +6,13 @@ ghost use Rattle.flow_core_laws.specs.Window.{claims_of};
 ghost use Rattle.stream_match_layouts.specs.Lawful.{IsLawfulClaim, AreLawful};
 ghost use Rattle.stream_match_layouts.specs.Layout.{IsLayout, IsLayoutOf};
 
-use flow_core_laws::{Activation, Claim};
+use flow_core_laws::{ACTIVATIONS_LIMIT, Activation, Claim, HORIZON_LIMIT, POSITIONS_LIMIT};
 use os_io::Memory;
 use std::alloc::Global;
 use stream_match_layouts::Layout;
 
-/// The most activations of a run.
-const ACTIVATIONS_LIMIT: usize = 65_536;
-/// The most positions that the claims of a run cover together.
-const POSITIONS_LIMIT: u64 = 4_194_304;
 /// What the moves of a run's cursors stay below together.
 const MOVES_BOUND: u64 = 1 << 62;
-/// The most positions that a claim covers.
-const HORIZON_LIMIT: u32 = 65_536;
 
 /// The layout of activations over so many streams and an input of so many elements, or none where they aren't lawful.
 pub fn lawful_layout(
@@ -44,13 +38,13 @@ fn are_lawful(alloc: Global, streams: u32, activations: &[Activation]) -> Result
     ensures lawful { IfOk result (λ lawful. lawful ≡ true → AreLawful streams activations.now) }
     ensures unlawful { IfOk result (λ lawful. lawful ≡ false → AreLawful streams activations.now → ⊥) }
 {
-    if activations.len() > ACTIVATIONS_LIMIT {
+    if activations.len() > ACTIVATIONS_LIMIT as usize {
         return Ok(false);
     }
     let claims = claims_in(alloc, activations)?;
     Ok(
         are_claims_lawful(streams, claims.as_slice())
-            && positions_in(claims.as_slice()) <= POSITIONS_LIMIT
+            && positions_in(claims.as_slice()) <= POSITIONS_LIMIT as u64
             && moves_in(claims.as_slice()) < MOVES_BOUND,
     )
 }

@@ -9,11 +9,8 @@ ghost use Rattle.lowering_relation.specs.Programs.{constant_size, size_by};
 ghost use Rattle.window_check_laws.specs.Sums.{declarators_slots, declared_slots, start_slots, stmt_slots, stmts_slots};
 
 use crate::told::Told;
-use os_ast::{Declarator, Expr, Owner, Start, Stmt, Target, What};
+use os_ast::{Declarator, Expr, Owner, SIZE_LIMIT, Start, Stmt, Target, What};
 use os_io::List;
-
-/// The most elements that a local array has.
-const SIZE_LIMIT: i64 = 65_536;
 
 /// The slots of a statement, as far as a `u32` goes.
 #[cycle(slots)]
@@ -126,7 +123,7 @@ fn constant_size(what: What) -> u32
 fn limited(value: i64) -> u32
     ensures { result ≡ unwrap_or (within_limit value) 0 }
 {
-    if value >= 1 && value <= SIZE_LIMIT {
+    if value >= 1 && value <= SIZE_LIMIT as i64 {
         value as u32
     } else {
         0

@@ -39,7 +39,7 @@ pub enum Instr {
     Jump(u32),
     /// `value --`. Goes to that place where the value is 0.
     JumpZero(u32),
-    /// `--`. Takes a unit of the budget; over budget where there is none.
+    /// `--`. Takes a turn of the budget; over budget where none is left.
     Turn,
     /// `arguments -- value`. Calls the function unit of that number: its arguments are the slots 0 and following of a
     /// new frame, whose other slots are 0. The value is there when the function returns.

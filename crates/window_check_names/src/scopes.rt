@@ -17,19 +17,12 @@ use crate::broken_rules::when;
 use crate::captures::Slots;
 use crate::declared::Declared;
 use crate::meanings::meaning;
-use os_ast::{Entity, Entry, Form, Owner, Rule, What};
+use os_ast::{ARRAYS_LIMIT, ELEMENTS_LIMIT, Entity, Entry, Form, Owner, Rule, STREAMS_LIMIT, What};
 use os_io::Memory;
 use os_lexer::names::{OSIN, OSIN_LEN, OSOUT};
 use std::alloc::Global;
 use std::marker::Model;
 use std::mem;
-
-/// The most elements of the local arrays of one function or task.
-const ELEMENTS_LIMIT: u32 = 65_536;
-/// The most elements of the local arrays of a program.
-const ARRAYS_LIMIT: u32 = 1_048_576;
-/// The most streams that a program declares.
-const STREAMS_LIMIT: u32 = 65_536;
 
 /// A place of the program: what is in scope there, and what the declarations before it took.
 #[derive(Drop)]

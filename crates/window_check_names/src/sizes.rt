@@ -8,11 +8,8 @@ ghost use Rattle.window_check_names.specs.Sizes.{bare_name};
 
 use crate::found::Found;
 use crate::scopes::Scopes;
-use os_ast::{Entity, Expr, Name, Target};
+use os_ast::{Entity, Expr, Name, SIZE_LIMIT, Target};
 use os_io::Memory;
-
-/// The most elements that a local array has, and the most streams of a stream array.
-const SIZE_LIMIT: u32 = 65_536;
 
 /// A size from 1 to the limit.
 fn within_limit(value: i64) -> Option<u32>

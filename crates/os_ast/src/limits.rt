@@ -1,0 +1,10 @@
+//! How large what a program declares may be.
+
+/// The most elements of a local array, and the most streams of an array of streams.
+pub const SIZE_LIMIT: u32 = 65_536;
+/// The most elements of the local arrays of one function or task.
+pub const ELEMENTS_LIMIT: u32 = 65_536;
+/// The most elements of the local arrays of a program.
+pub const ARRAYS_LIMIT: u32 = 1_048_576;
+/// The most streams that a program declares.
+pub const STREAMS_LIMIT: u32 = 65_536;
