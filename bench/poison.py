@@ -3,7 +3,8 @@
 quickest of five runs and, by 1 worker, the machine instructions an activation of the whole program, where valgrind is there. One
 activation fails and all others are poisoned by it; beside that the same where it doesn't fail and all are done. In a chain each reads
 what the one created before it wrote, in a chain backwards what the one created behind it wrote, on one stream or (`streams`) each on a
-stream of its own, and in a fan all read the same element.
+stream of its own, and in a fan all read the same element. A chain is `held` where the one created first waits for its last element: then it
+goes through epochs, as the chain backwards does, and nothing of it is given up before its end.
 Each report is compared with the one written here. ./build has to have built the program."""
 import os
 import re
@@ -25,6 +26,22 @@ CHAIN = """int main(void) {
         #pragma omp task input(s >> x) output(s << y)
         y = x;
     }
+}
+"""
+
+HELD = """int main(void) {
+    int s __attribute__((stream)), t __attribute__((stream));
+    int i, x, y;
+    #pragma omp task input(t >> x)
+    y = x;
+    #pragma omp task output(s << y)
+    y = 1 / DIVISOR;
+    for (i = 2; i + 1 < COUNT; i++) {
+        #pragma omp task input(s >> x) output(s << y)
+        y = x;
+    }
+    #pragma omp task input(s >> x) output(t << y)
+    y = x;
 }
 """
 
@@ -67,10 +84,11 @@ FAN = """int main(void) {
 
 
 def report(text, count, fails):
-    """The report of a run of one of the programs, by hand: the activation that fails is the last one of the chains backwards alone."""
+    """The report of a run of one of the programs, by hand: the activation that fails is the last one of the chains backwards, the second
+    one of the chain that is held, and the first one of the others."""
     if not fails:
         return "control done\noutput 0 of 0\n"
-    root = count - 1 if text in (BACKWARDS, STREAMS) else 0
+    root = count - 1 if text in (BACKWARDS, STREAMS) else 1 if text == HELD else 0
     line = next(number for number, line in enumerate(text.split("\n"), 1) if "DIVISOR" in line)
     lines = [f"poisoned {number} by {root}" for number in range(count)]
     lines[root] = f"trapped {root} code 2 line {line}"
@@ -106,7 +124,7 @@ def main():
     with tempfile.TemporaryDirectory() as folder:
         program, nothing = f"{folder}/program.c", f"{folder}/nothing"
         open(nothing, "w", encoding="utf-8").close()
-        for name, text in ("chain", CHAIN), ("backwards", BACKWARDS), ("streams", STREAMS), ("fan", FAN):
+        for name, text in ("chain", CHAIN), ("held", HELD), ("backwards", BACKWARDS), ("streams", STREAMS), ("fan", FAN):
             for count in 1024, 4096, 16384, 65536:
                 for workers in 1, 4:
                     row = f"{name:<10} {count:>11} {workers:>7}"
