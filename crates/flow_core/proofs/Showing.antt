@@ -17,11 +17,11 @@ use Rattle.flow_core_laws.specs.declared.outcome.Outcome.{Outcome}
 use Rattle.flow_core_laws.specs.Outcome.{outcome_at, State, root_of}
 use Rattle.flow_core_laws.specs.Element.{Source, given, fed, nobody, element, output_element, written, output_at}
 use Rattle.flow_core_laws.specs.Round.{gathered}
-use Rattle.flow_core_laws.specs.Poisoning.{poisoning}
+use Rattle.flow_core_laws.specs.Poisoning.{poisoning, values_of}
 use Rattle.flow_core_laws.specs.Plans.{frame_at, number_at, cells_of, held_at, cell_source, plan_reads, plan_element, plan_meaning}
 use Rattle.flow_core_laws.specs.IsSound.{Covers, IsSound}
 use Rattle.flow_core.specs.Counted.{IsCounted, Carries, AreEmpty}
-use Rattle.flow_core.specs.Shows.{end_at, shown, Shows, Gives}
+use Rattle.flow_core.specs.Shows.{end_at, shown, Shows, Gives, Reads}
 use Rattle.flow_core.proofs.Carrying.{piece_fits}
 use Rattle.flow_core_laws.proofs.Gathering.{gathered-weaker, all_gathered}
 use Rattle.flow_core_laws.proofs.Rounds.{outcome_at-meaning}
@@ -160,6 +160,20 @@ outcome_meant plan outcome cells ends waits f vs sound counted shows lt h =
     let cell_by_cell : gathered (map (held_at cells) (cells_of plan f)) ≡ Some vs = ap gathered (sym (stretch_of plan cells waits f sound counted (let le : f ≤ length plan.frames = omega arith in le))) ∙ h in
     let read : gathered (map (λ c. plan_element plan (plan_meaning plan outcome) (cell_source plan c)) (cells_of plan f)) ≡ Some vs = gathered-weaker (held_at cells) (λ c. plan_element plan (plan_meaning plan outcome) (cell_source plan c)) (held_meant plan (plan_meaning plan outcome) cells ends shows) (cells_of plan f) vs cell_by_cell in
     outcome_at-meaning (plan_element plan) (element_kept (number_at plan)) (plan_reads plan) (poisoning outcome) (length plan.frames) f lt ∙ ap (option_map (poisoning outcome f)) (ap gathered (map_map (cell_source plan) (plan_element plan (plan_meaning plan outcome)) (cells_of plan f)) ∙ read)
+
+-- the cells of a frame that misses nothing hold what it reads in the meaning
+pub reads_meant : (plan : Plan) (m : State) (cells : List (Option Elem)) (ends : List (Option TaskEnd)) (waits : Waits) (f : ℕ) (es : List Elem) (values : List ℤ)
+    → IsSound plan → IsCounted plan cells waits → Shows plan m cells ends → f < length plan.frames
+    → gathered (take ((frame_at plan f).cell + (frame_at plan f).inputs - (frame_at plan f).cell) (drop (frame_at plan f).cell cells)) ≡ Some es
+    → values ≡ values_of es → Reads plan m f values
+reads_meant plan m cells ends waits f es values sound counted shows lt h is =
+    let cell_by_cell : gathered (map (held_at cells) (cells_of plan f)) ≡ Some es = ap gathered (sym (stretch_of plan cells waits f sound counted (let le : f ≤ length plan.frames = omega arith in le))) ∙ h in
+    record {
+      elements = es;
+      are_there = ap gathered (map_map (cell_source plan) (plan_element plan m) (cells_of plan f))
+          ∙ gathered-weaker (held_at cells) (λ c. plan_element plan m (cell_source plan c)) (held_meant plan m cells ends shows) (cells_of plan f) es cell_by_cell;
+      values_are = is;
+    }
 
 -- a frame's part of the cells, as it is read
 abbrev pub part_of : FramePlan → List (Option Elem) → List (Option Elem)

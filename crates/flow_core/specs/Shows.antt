@@ -1,5 +1,5 @@
 -- What a run shows of the meaning.
-use Rattle.std.specs.Prelude.{◌≡◌, ℕ, ℤ, ◌<◌, List, Option, Some, None, is_some, if◌then◌else◌, length, slice_index_or}
+use Rattle.std.specs.Prelude.{◌≡◌, ℕ, ℤ, ◌<◌, List, Option, Some, None, is_some, if◌then◌else◌, length, map, slice_index_or}
 use Rattle.std.specs.Option.{option_map}
 use Rattle.flow_core_laws.specs.Outcome.{outcome_at, State}
 use Rattle.flow_core_laws.specs.declared.elem.Elem.{Elem}
@@ -8,7 +8,9 @@ use Rattle.flow_core_laws.specs.declared.task_end.TaskEnd.{TaskEnd}
 use Rattle.flow_core_laws.specs.declared.task_end.TaskEnd.TheVariants.{Done}
 use Rattle.flow_core_laws.specs.declared.outcome.Outcome.{Outcome}
 use Rattle.flow_core_laws.specs.Element.{Source, given, fed, nobody, output_at}
-use Rattle.flow_core_laws.specs.Plans.{number_at, held_at, cell_source}
+use Rattle.flow_core_laws.specs.Plans.{number_at, held_at, cell_source, plan_element, plan_reads}
+use Rattle.flow_core_laws.specs.Poisoning.{values_of}
+use Rattle.flow_core_laws.specs.Round.{gathered}
 
 -- the end of a frame so far
 abbrev pub end_at : List (Option TaskEnd) → ℕ → Option TaskEnd
@@ -29,3 +31,9 @@ pub record Shows (plan : Plan) (meaning : State) (cells : List (Option Elem)) (e
 -- The meaning gives a frame an end, with these outputs where it is Done.
 abbrev pub Gives : State → ℕ → TaskEnd → List ℤ → Type 0
 Gives meaning frame end outputs = (o : Outcome) × (outcome_at meaning frame ≡ Some o) × (o.end ≡ end) × (end ≡ Done → outputs ≡ o.outputs)
+
+-- All inputs of a frame are there in the meaning, and these are the values among them.
+pub record Reads (plan : Plan) (meaning : State) (frame : ℕ) (values : List ℤ) : Type 0 where
+  pub elements : List Elem
+  pub are_there : gathered (map (plan_element plan meaning) (plan_reads plan frame)) ≡ Some elements
+  pub values_are : values ≡ values_of elements

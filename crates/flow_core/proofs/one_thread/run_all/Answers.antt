@@ -9,7 +9,7 @@ loop-turn-smaller g c =
     let board = c.loop-turn.board in
     let lt : c.loop-turn.turn < length board.waits.opened.items = omega arith in
     let at = c.index-frame.ensures ∙ get_or_default board.waits.opened.items c.loop-turn.turn _ 0 lt in
-    let (e, ends) = c.in_ok-run_frame.ensures.ended in
+    let (e, ends, gives) = c.in_ok-run_frame.ensures.ended in
     IsRun-fewer _ _ board c.loop-turn.turn e _ run lt (ends ∙ ap (λ (f : ℕ). set board.ends.items f (Some e)) at)
 
 pub loop-turn-preserved : goal.loop-turn-preserved
@@ -18,7 +18,7 @@ loop-turn-preserved g c =
     let board = c.loop-turn.board in
     let lt : c.loop-turn.turn < length board.waits.opened.items = omega arith in
     let at = c.index-frame.ensures ∙ get_or_default board.waits.opened.items c.loop-turn.turn _ 0 lt in
-    let (e, ends) = c.in_ok-run_frame.ensures.ended in
+    let (e, ends, gives) = c.in_ok-run_frame.ensures.ended in
     let opens = c.in_ok-run_frame.ensures.opens in
     let grows = opens.grows in
     (IsRun-more _ _ board c.run_frame.new.board c.loop-turn.turn e run lt c.in_ok-run_frame.ensures.counted c.in_ok-run_frame.ensures.shows opens (ends ∙ ap (λ (f : ℕ). set board.ends.items f (Some e)) at), omega arith, c.in_ok-run_frame.ensures.fits_again)

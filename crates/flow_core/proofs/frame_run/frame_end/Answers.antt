@@ -2,7 +2,7 @@ use Rattle.std.proofs.Common.{ℕ, length, sym, ap, ◌∙◌, subst}
 use Rattle.flow_core_laws.proofs.Gathering.{length-gathered}
 use Rattle.flow_core_laws.proofs.OneMore.{length-values}
 use Rattle.flow_core.proofs.Ending.{IsSome-value, none_left}
-use Rattle.flow_core.proofs.one_thread.frame_end.Goals as goal
+use Rattle.flow_core.proofs.frame_run.frame_end.Goals as goal
 
 pub run-requires-clause-taken : goal.run-requires-clause-taken
 run-requires-clause-taken g c =
