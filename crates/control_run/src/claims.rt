@@ -84,13 +84,11 @@ fn set_output_claim(
                 if i64::from(burst) != i64::from(horizon) {
                     return Err(Trap::OutputBurst);
                 }
-                *claim = Claim {
-                    stream,
-                    write: true,
-                    horizon,
-                    burst: horizon,
-                    skip: 0,
-                };
+                claim.stream = stream;
+                claim.write = true;
+                claim.horizon = horizon;
+                claim.burst = horizon;
+                claim.skip = 0;
                 Ok(horizon)
             }
         },
@@ -119,13 +117,11 @@ fn set_input_claim(
             Some(horizon) => match amount_of(burst) {
                 None => Err(Trap::Move),
                 Some(burst) => {
-                    *claim = Claim {
-                        stream,
-                        write: false,
-                        horizon,
-                        burst,
-                        skip: 0,
-                    };
+                    claim.stream = stream;
+                    claim.write = false;
+                    claim.horizon = horizon;
+                    claim.burst = burst;
+                    claim.skip = 0;
                     Ok(horizon)
                 }
             },

@@ -1,6 +1,6 @@
 //! Places of a list of activations, where others are made.
 
-ghost use Rattle.std.specs.Prelude.{◌≡◌, ◌+◌, ◌-◌, ◌++◌, ◌<◌, ◌≤◌, true, IfOk, IfSome, OnOk, Some, drop, length, slice_get, slice_set, take};
+ghost use Rattle.std.specs.Prelude.{◌≡◌, ◌+◌, ◌-◌, ◌^◌, ◌++◌, ◌<◌, ◌≤◌, true, IfOk, IfSome, OnOk, Some, drop, length, slice_get, slice_set, take};
 ghost use Rattle.control_run.specs.Spawning.{HasShape, no_activation};
 ghost use Rattle.control_run.specs.Sparing.{FitsAt};
 
@@ -22,7 +22,7 @@ const BLANK: Claim = Claim {
 };
 
 /// Sees to it that an activation with lists of these lengths stands in a place, whatever stands in them: the one that is there,
-/// one from behind it, or a new one. It answers the next place. Only a new one takes memory; those before the place stay.
+/// one from behind it, or a new one. Only a new one takes memory; those before the place stay.
 #[inline(always)]
 pub(crate) fn make_place(
     alloc: Global,
@@ -30,19 +30,19 @@ pub(crate) fn make_place(
     place: usize,
     captured: usize,
     claims: usize,
-) -> Result<usize, Memory>
+) -> Result<(), Memory>
     requires few { claims ≤ 8 }
     requires there { place ≤ length activations.old }
     ensures kept { take place activations.new ≡ take place activations.old }
     ensures there { place ≤ length activations.new }
     ensures fits { OnOk result (FitsAt place captured claims activations.new) }
-    ensures next { IfOk result (λ next. next ≡ place + 1) }
+    ensures next { OnOk result (place + 1 < 2 ^ 64) }
 {
     if place < activations.len() && has_shape(&activations.as_slice()[place], captured, claims) {
-        return Ok(place + 1);
+        return Ok(());
     }
-    let next = find_other(alloc, activations, place, captured, claims)?;
-    Ok(next)
+    find_other(alloc, activations, place, captured, claims)?;
+    Ok(())
 }
 
 /// Whether an activation has lists of these lengths.
@@ -61,23 +61,23 @@ fn find_other(
     place: usize,
     captured: usize,
     claims: usize,
-) -> Result<usize, Memory>
+) -> Result<(), Memory>
     requires few { claims ≤ 8 }
     requires there { place ≤ length activations.old }
     ensures kept { take place activations.new ≡ take place activations.old }
     ensures there { place ≤ length activations.new }
     ensures fits { OnOk result (FitsAt place captured claims activations.new) }
-    ensures next { IfOk result (λ next. next ≡ place + 1) }
+    ensures next { OnOk result (place + 1 < 2 ^ 64) }
 {
     match fitting_from(activations.as_slice(), place, captured, claims) {
         Some(other) => {
             activations.as_mut_slice().swap(place, other);
-            Ok(place + 1)
+            Ok(())
         }
         None => {
             let one = blank(alloc, captured, claims)?;
-            let next = put_at(activations, place, one)?;
-            Ok(next)
+            let _next = put_at(activations, place, one)?;
+            Ok(())
         }
     }
 }

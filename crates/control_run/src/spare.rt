@@ -83,7 +83,7 @@ impl Spare {
         ensures list_kept { OnErr result (self.new ≡ self.old) }
     {
         let place = self.made;
-        let next = make_place(
+        make_place(
             alloc,
             &mut self.activations,
             place,
@@ -101,7 +101,7 @@ impl Spare {
         ) {
             Some(end) => Ok(Some(end)),
             None => {
-                self.made = next;
+                self.made += 1;
                 Ok(None)
             }
         }
