@@ -31,7 +31,7 @@ abbrev pub outcome_by : Parts → Activation → List Elem → (budget : ℕ) �
 outcome_by code activation elements budget =
     option_map_or (λ root. outcome_of (Poisoned root) []) (least_root elements) (task_outcome code activation (values_of elements) budget)
 
--- Activations have run in order, the first ones of all: each has ended, as they mean, and the streams hold what they wrote.
+-- The activations before have run in order: each has ended as it means among all, and the streams hold what they wrote.
 pub record StandsBehind (code : Parts) (all before : List Activation) (input : List ℕ) (budget : ℕ) (order : InOrder) : Type 0 where
   pub ends_are : order.ends ≡ ends_of (meaning_in code all before input budget)
   pub have_ended : HaveAllEnded (meaning_in code all before input budget)
