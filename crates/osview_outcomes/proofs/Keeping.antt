@@ -1,27 +1,16 @@
 -- What is kept, frame by frame.
-use Rattle.std.proofs.Common.{◌≡◌, ◌≢◌, ◌+◌, ◌-◌, ◌<◌, ◌≤◌, ℕ, zero, suc, ℤ, take, drop, subst, List, [], ◌∷◌, Option, Some, None, true, length, map, set, get_or, refl, sym, ap, ◌∙◌, ◌⊎◌, inl, inr, arith}
+use Rattle.std.proofs.Common.{◌≡◌, ◌≢◌, ◌<◌, ℕ, zero, suc, ℤ, subst, List, [], ◌∷◌, Option, Some, None, true, length, map, set, get_or, refl, sym, ap, ◌∙◌, ◌⊎◌, inl, inr}
 use Rattle.std.specs.Prelude.{is_some}
 use Rattle.std.proofs.lemmas.Bool.{cases_eq}
 use Rattle.std.proofs.lemmas.List.{get_or-set_same, get_or-set_other}
 use Rattle.flow_core_laws.specs.Outcome.{State, outcome_at}
 use Rattle.flow_core_laws.specs.declared.outcome.Outcome.{Outcome}
 use Rattle.flow_core_laws.specs.declared.plan.FramePlan.{FramePlan}
+use Rattle.flow_core_laws.specs.declared.plan.Plan.{Plan}
 use Rattle.flow_core_laws.specs.declared.task_end.TaskEnd.{TaskEnd}
 use Rattle.flow_core_laws.specs.declared.task_end.TaskEnd.TheVariants.{Done}
-use Rattle.flow_core_laws.specs.declared.elem.Elem.{Elem}
-use Rattle.flow_core_laws.specs.declared.plan.Plan.{Plan}
-use Rattle.flow_core_laws.specs.IsSound.{IsSound}
-use Rattle.flow_core_laws.specs.Plans.{cell_source, cells_of, frame_at, held_at, plan_element}
-use Rattle.flow_core_laws.specs.Poisoning.{values_of}
-use Rattle.flow_core_laws.specs.Round.{gathered}
-use Rattle.flow_core_laws.proofs.Gathering.{gathered-weaker}
-use Rattle.flow_core_laws.proofs.Sources.{map_map}
-use Rattle.flow_core.specs.declared.waits.Waits.{Waits}
-use Rattle.flow_core.specs.Counted.{IsCounted}
-use Rattle.flow_core.specs.Shows.{Gives, Shows, end_at}
-use Rattle.flow_core.proofs.Showing.{held_meant, stretch_of}
+use Rattle.flow_core.specs.Shows.{Gives, Reads, end_at}
 use Rattle.osview_outcomes.specs.Kept.{AreKept}
-use Rattle.osview_outcomes.specs.Outcomes.{Reads}
 
 -- nothing has an end at the opening
 no_end : (frames : List FramePlan) (f : ℕ) → end_at (map (λ (p : FramePlan). None) frames) f ≡ None
@@ -70,17 +59,3 @@ module _ (plan : Plan) (m : State) (ends new_ends : List (Option TaskEnd)) (f : 
           let e_done : e ≡ Done = sym o_end ∙ ap (λ (q : Outcome). q.end) o_is ∙ done in
           ap (λ (k : ℕ). get_or new_outputs k []) same ∙ set_here outputs new_outputs written in_outputs outputs_are ∙ o_outputs e_done ∙ ap (λ (q : Outcome). q.outputs) o_is
       written_at g o some is done (inr other) = set_there outputs new_outputs written g other outputs_are ∙ old.written g o (ap is_some (sym (stays g other)) ∙ some) is done
-
--- the cells of a frame that misses nothing hold what it reads in the meaning
-pub reads_meant : (plan : Plan) (m : State) (cells : List (Option Elem)) (ends : List (Option TaskEnd)) (waits : Waits) (f : ℕ) (es : List Elem) (values : List ℤ)
-    → IsSound plan → IsCounted plan cells waits → Shows plan m cells ends → f < length plan.frames
-    → gathered (take ((frame_at plan f).cell + (frame_at plan f).inputs - (frame_at plan f).cell) (drop (frame_at plan f).cell cells)) ≡ Some es
-    → values ≡ values_of es → Reads plan m f values
-reads_meant plan m cells ends waits f es values sound counted shows lt h is =
-    let cell_by_cell : gathered (map (held_at cells) (cells_of plan f)) ≡ Some es = ap gathered (sym (stretch_of plan cells waits f sound counted (let le : f ≤ length plan.frames = omega arith in le))) ∙ h in
-    record {
-      elements = es;
-      are_there = ap gathered (map_map (cell_source plan) (plan_element plan m) (cells_of plan f))
-          ∙ gathered-weaker (held_at cells) (λ c. plan_element plan m (cell_source plan c)) (held_meant plan m cells ends shows) (cells_of plan f) es cell_by_cell;
-      values_are = is;
-    }

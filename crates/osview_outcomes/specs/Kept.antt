@@ -6,9 +6,8 @@ use Rattle.flow_core_laws.specs.declared.outcome.Outcome.{Outcome}
 use Rattle.flow_core_laws.specs.declared.plan.Plan.{Plan}
 use Rattle.flow_core_laws.specs.declared.task_end.TaskEnd.{TaskEnd}
 use Rattle.flow_core_laws.specs.declared.task_end.TaskEnd.TheVariants.{Done}
-use Rattle.flow_core.specs.Shows.{end_at}
+use Rattle.flow_core.specs.Shows.{Reads, end_at}
 use Rattle.osview_outcomes.specs.Order.{WaitsFor}
-use Rattle.osview_outcomes.specs.Outcomes.{Reads}
 
 -- Of each frame that has an end so far it is kept what it read, and what it wrote if it is Done.
 pub record AreKept (plan : Plan) (meaning : State) (ends : List (Option TaskEnd)) (inputs outputs : List (List ℤ)) : Type 0 where

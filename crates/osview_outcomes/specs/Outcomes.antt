@@ -1,13 +1,11 @@
 -- What the frames of a plan came to, as a meaning has it.
-use Rattle.std.specs.Prelude.{◌≡◌, ◌<◌, ℕ, ℤ, List, [], Some, length, map, slice_index, slice_index_or}
+use Rattle.std.specs.Prelude.{◌≡◌, ◌<◌, ℕ, [], Some, length, slice_index, slice_index_or}
 use Rattle.flow_core_laws.specs.Outcome.{State, ends_of, outcome_at}
-use Rattle.flow_core_laws.specs.Plans.{plan_element, plan_reads}
-use Rattle.flow_core_laws.specs.Poisoning.{values_of}
-use Rattle.flow_core_laws.specs.Round.{gathered}
-use Rattle.flow_core_laws.specs.declared.elem.Elem.{Elem}
+use Rattle.flow_core_laws.specs.Plans.{plan_reads}
 use Rattle.flow_core_laws.specs.declared.outcome.Outcome.{Outcome}
 use Rattle.flow_core_laws.specs.declared.plan.Plan.{Plan}
 use Rattle.flow_core_laws.specs.declared.task_end.TaskEnd.TheVariants.{Done}
+use Rattle.flow_core.specs.Shows.{Reads}
 use Rattle.osview_outcomes.specs.Order.{IsInOrder}
 use Rattle.osview_outcomes.specs.declared.kept.Outcomes.{Outcomes}
 
@@ -15,12 +13,6 @@ use Rattle.osview_outcomes.specs.declared.kept.Outcomes.{Outcomes}
 pub record AreOutcomesOf (outcomes : Outcomes) (meaning : State) : Type 0 where
   pub ends : outcomes.ends.items ≡ ends_of meaning
   pub outputs : (f : ℕ) (o : Outcome) → outcome_at meaning f ≡ Some o → o.end ≡ Done → slice_index_or outcomes.outputs f [] ≡ o.outputs
-
--- All inputs of a frame are there in the meaning, and these are the values among them.
-pub record Reads (plan : Plan) (meaning : State) (frame : ℕ) (values : List ℤ) : Type 0 where
-  pub elements : List Elem
-  pub are_there : gathered (map (plan_element plan meaning) (plan_reads plan frame)) ≡ Some elements
-  pub values_are : values ≡ values_of elements
 
 -- Of each frame with an outcome it is kept what it read.
 pub record HasInputs (outcomes : Outcomes) (plan : Plan) (meaning : State) : Type 0 where

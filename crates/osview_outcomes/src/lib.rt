@@ -4,7 +4,7 @@
 //! `outcomes` promises the plan's meaning, as `execute_one` of `flow_core` does, but of each frame and not of the sink alone.
 //! What a frame read stands in the cells of the plan, and is kept too, so that its body can be run again over the same values;
 //! and so is the order in which the frames were run, in which each stands behind those that it waits for.
-//! The run goes through the board of `flow_core`.
+//! The run goes through the board of `flow_core`, frame by frame by its `run_frame`.
 #![tactic(auto)]
 
 mod kept;

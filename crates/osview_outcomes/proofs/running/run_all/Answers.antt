@@ -1,9 +1,8 @@
 use Rattle.std.proofs.Common.{ℕ, ◌<◌, Some, ap, ◌∙◌, set, length, arith, refl, subst, sym}
 use Rattle.std.proofs.lemmas.List.{get_or_default, length-set}
 use Rattle.flow_core_laws.specs.Plans.{plan_meaning}
-use Rattle.flow_core.specs.Shows.{Gives}
+use Rattle.flow_core.specs.Shows.{Gives, Reads}
 use Rattle.flow_core.proofs.Running.{IsRun-more, IsRun-fewer}
-use Rattle.osview_outcomes.specs.Outcomes.{Reads}
 use Rattle.osview_outcomes.proofs.Keeping.{kept_at_first, one_more}
 use Rattle.osview_outcomes.proofs.Ordering.{one_more_behind}
 use Rattle.osview_outcomes.proofs.running.run_all.Goals as goal
