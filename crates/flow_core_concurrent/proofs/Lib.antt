@@ -6,6 +6,7 @@ pub mod Moves
 pub mod Splits
 pub mod Opening
 pub mod Once
+pub mod Ran
 pub mod Looks
 pub mod Runs
 pub mod Starts

@@ -1,5 +1,5 @@
 -- The laws of the core with poison, as statements.
-use Rattle.std.specs.Prelude.{◌≡◌, ℕ, ℤ, ◌+◌, ◌<◌, ◌≤◌, true, false, List, Some, None, IsSome, is_some, length, map, slice_get, ⊤}
+use Rattle.std.specs.Prelude.{◌≡◌, ℕ, ℤ, ◌+◌, ◌<◌, ◌≤◌, true, false, List, Some, None, IsSome, All, is_some, length, map, sum_by, slice_get, ⊤}
 use Rattle.std.specs.Option.{option_map}
 use Rattle.flow_core_laws.specs.declared.plan.Piece.{Piece}
 use Rattle.flow_core_laws.specs.Outcome.{outcome_at, State}
@@ -128,6 +128,22 @@ SubFindsItsCount =
 -- a frame stands in the ran lists of all seats together at most once
 abbrev pub RunsAtMostOnce : Type 0
 RunsAtMostOnce = (known : Known) (state : CoreState) (f : ℕ) → IsGood known state → times_in_all (λ v. v.ran) state f ≤ 1
+
+-- the ran list of a seat has frames of the plan alone
+abbrev pub RanAreFrames : Type 0
+RanAreFrames =
+    (known : Known) (state : CoreState) (seat : ℕ) (view : View) → IsGood known state → slice_get state.seats seat ≡ Some view
+    → All (λ f. f < length known.plan.frames) view.ran
+
+-- it has at most as many entries as the plan has frames, and so have the ran lists of all seats together
+abbrev pub RanAreFew : Type 0
+RanAreFew =
+    (known : Known) (state : CoreState) (seat : ℕ) (view : View) → IsGood known state → slice_get state.seats seat ≡ Some view
+    → length view.ran ≤ length known.plan.frames
+
+abbrev pub RanAreFewInAll : Type 0
+RanAreFewInAll =
+    (known : Known) (state : CoreState) → IsGood known state → sum_by (λ (v : View). length v.ran) state.seats ≤ length known.plan.frames
 
 -- a frame that waited at opening stands in the made lists of all seats together exactly once, as soon as
 -- it waits no more

@@ -19,6 +19,9 @@ ghost use Rattle.flow_core_concurrent.specs.Laws.{
   SubFindsItsCount,
   ClaimFindsItsCells,
   RunsAtMostOnce,
+  RanAreFrames,
+  RanAreFew,
+  RanAreFewInAll,
   OpenIsNew,
   WaitingIsNew,
   IsMadeOnce,
@@ -104,6 +107,13 @@ pub fn runs_at_most_once()
     ensures once { RunsAtMostOnce }
     ensures new { OpenIsNew }
     ensures stays { StartedStays }
+{}
+
+/// What seats ran are frames of the plan, and they ran no more of them than it has, each seat and all together.
+pub fn ran_frames_are_few()
+    ensures frames { RanAreFrames }
+    ensures each { RanAreFew }
+    ensures all { RanAreFewInAll }
 {}
 
 /// A frame that waited is made once. It never waits again, and a frame that a seat knows doesn't wait.
