@@ -10,8 +10,7 @@ ghost use Rattle.trace_replay.specs.Standing.{Stands, AreQueued, HeadWaits};
 use crate::answering::{close, first_free, first_hole, first_left};
 use crate::lists::{first_stranger, head};
 use crate::owners::{Owners, owners_of};
-use crate::running::{Buffers, run_frame};
-use flow_core::{Board, Bodies, Plan};
+use flow_core::{Board, Bodies, FrameBuffers, Plan, run_frame};
 use os_io::{List, Memory};
 use std::alloc::Global;
 use trace_replay_laws::Replayed;
@@ -43,7 +42,7 @@ fn run_list<B: Bodies>(
     lists: &[List<u32>],
     places: &mut [usize],
     list: usize,
-    buffers: &mut Buffers,
+    buffers: &mut FrameBuffers,
     scratch: &mut B::Scratch,
 ) -> Result<(), Memory>
     requires sound { IsSound plan.now }
@@ -74,7 +73,7 @@ fn run_opened<B: Bodies>(
     owners: &[u32],
     places: &mut [usize],
     turn: usize,
-    buffers: &mut Buffers,
+    buffers: &mut FrameBuffers,
     scratch: &mut B::Scratch,
 ) -> Result<(), Memory>
     requires sound { IsSound plan.now }
@@ -106,7 +105,7 @@ fn run_heads<B: Bodies>(
     lists: &[List<u32>],
     owners: &[u32],
     places: &mut [usize],
-    buffers: &mut Buffers,
+    buffers: &mut FrameBuffers,
     scratch: &mut B::Scratch,
 ) -> Result<(), Memory>
     requires sound { IsSound plan.now }
@@ -172,7 +171,7 @@ fn replay_frames<B: Bodies>(
     ensures { IfOk result (IsAnswer plan.now (B.outcome bodies.now) lists.now) }
 {
     let mut scratch = bodies.scratch(alloc)?;
-    let mut buffers = Buffers::new(alloc);
+    let mut buffers = FrameBuffers::new(alloc);
     let mut board = Board::open(alloc, plan)?;
     let mut places = Vec::new(alloc);
     places.resize(lists.len(), 0usize)?;

@@ -13,7 +13,7 @@ loop-frame-preserved g c =
     let l = c.loop-frame.invariant in
     let found = c.in-Some.ensures.some in
     let ran = c.in_ok-run_frame.ensures in
-    let (end, ended) = ran.ended in
+    let (end, ended, gives) = ran.ended in
     record {
       stands = stands_more c.args.plan.now (g.B.Bodies.outcome c.args.bodies.now) c.args.lists.now c.requires.sound c.requires.frames c.loop-frame.places c.loop-frame.board l.stands c.args.list c.in-Some.frame c.requires.exists found.0 found.1 c.run_frame.new.board end ran.counted ran.shows ended;
       others = λ k n. get_or-set_other c.loop-frame.places c.args.list k _ 0 n ∙ l.others k n;
