@@ -30,3 +30,5 @@ mod reports;
 #[cfg(test)]
 mod rounds;
 mod told;
+#[cfg(test)]
+mod waiting;
