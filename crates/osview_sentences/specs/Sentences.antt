@@ -1,6 +1,11 @@
 -- What is said of an activation that isn't done, and which sentences are alike.
-use Rattle.std.specs.Prelude.{ℕ, ◌==◌, ◌&&◌, Bool, true, false, if◌then◌else◌, List, [], ◌++◌, codes}
+use Rattle.std.specs.Prelude.{ℕ, ◌==◌, ◌&&◌, Bool, true, false, if◌then◌else◌, List, [], ◌∷◌, ◌++◌, Option, codes, find}
 use Rattle.std.specs.Fmt.{decimal}
+use Rattle.std.specs.Option.{option_map_or}
+use Rattle.c_int.specs.Traps.{trap_code}
+use Rattle.c_int.specs.declared.trap.OperatorTrap.TheVariants.{Overflow, DivisorZero, Shift}
+use Rattle.c_int.specs.declared.trap.Trap.{Trap}
+use Rattle.c_int.specs.declared.trap.Trap.TheVariants.{Operator, Index, NoByte, WindowSize, Move, OutputBurst}
 use Rattle.osview_sentences.specs.Names.{stream_text}
 use Rattle.osview_sentences.specs.declared.fact.Fact.{Fact}
 use Rattle.osview_sentences.specs.declared.fact.Fact.TheVariants as fact
@@ -9,17 +14,28 @@ use Rattle.osview_sentences.specs.declared.fact.Supply.{Supply}
 use Rattle.osview_sentences.specs.declared.fact.Supply.TheVariants as supply
 use Rattle.osview_sentences.specs.declared.stream_name.StreamName.{StreamName}
 
--- A trap in words. Its codes are 1 to 8.
+-- a trap in words
+abbrev pub trap_words : Trap → List ℕ
+trap_words (Operator Overflow) = codes "overflow, the result is no int"
+trap_words (Operator DivisorZero) = codes "division by zero"
+trap_words (Operator Shift) = codes "a shift by less than 0 or more than 31, or to the left of a negative number or out of int"
+trap_words Index = codes "the index is outside the array, the view or the stream array"
+trap_words NoByte = codes "an element for osout is no byte"
+trap_words WindowSize = codes "the size of the window is outside 1 to 65536"
+trap_words Move = codes "the burst or the tick is outside 0 to 65536"
+trap_words OutputBurst = codes "the burst of the output window isn't its size"
+
+-- all traps
+abbrev pub traps : List Trap
+traps = Operator Overflow ∷ Operator DivisorZero ∷ Operator Shift ∷ Index ∷ NoByte ∷ WindowSize ∷ Move ∷ OutputBurst ∷ []
+
+-- the trap with a code, if one has it
+abbrev pub trap_of : ℕ → Option Trap
+trap_of code = find (λ trap. code == trap_code trap) traps
+
+-- A trap in words, by its code.
 abbrev pub trap_text : ℕ → List ℕ
-trap_text code =
-    if code == 1 then codes "overflow, the result is no int"
-    else if code == 2 then codes "division by zero"
-    else if code == 3 then codes "a shift by less than 0 or more than 31, or to the left of a negative number or out of int"
-    else if code == 4 then codes "the index is outside the array, the view or the stream array"
-    else if code == 5 then codes "an element for osout is no byte"
-    else if code == 6 then codes "the size of the window is outside 1 to 65536"
-    else if code == 7 then codes "the burst or the tick is outside 0 to 65536"
-    else codes "the burst of the output window isn't its size"
+trap_text code = option_map_or trap_words (trap_of code) (codes "a code that no trap has")
 
 -- an element of a stream
 abbrev pub element_text : (name : List ℕ) → (position : ℕ) → List ℕ

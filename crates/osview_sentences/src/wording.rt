@@ -1,27 +1,56 @@
 ghost use Rattle.std.specs.Prelude.{◌≡◌, ◌++◌, [], OnOk, codes};
 ghost use Rattle.std.specs.Fmt.{decimal};
 ghost use Rattle.osview_sentences.specs.Names.{called, stream_text};
-ghost use Rattle.osview_sentences.specs.Sentences.{element_text, fact_text, from_text, given_text, sentence_text, supply_text, trap_text, waits_text};
+ghost use Rattle.osview_sentences.specs.Sentences.{element_text, fact_text, from_text, given_text, sentence_text, supply_text};
+ghost use Rattle.osview_sentences.specs.Sentences.{trap_of, trap_text, trap_words, waits_text};
 
 use crate::fact::{Fact, Sentence, Supply};
 use crate::stream_name::{StreamName, name_of};
 use crate::text::Text;
+use c_int::{OperatorTrap, Trap};
 use os_io::Memory;
 
 /// A trap in words.
+fn trap_words(trap: Trap) -> &'static [u8]
+    ensures { result.now ≡ trap_words trap }
+{
+    match trap {
+        Trap::Operator(OperatorTrap::Overflow) => b"overflow, the result is no int",
+        Trap::Operator(OperatorTrap::DivisorZero) => b"division by zero",
+        Trap::Operator(OperatorTrap::Shift) =>
+            b"a shift by less than 0 or more than 31, or to the left of a negative number or out of int",
+        Trap::Index => b"the index is outside the array, the view or the stream array",
+        Trap::NoByte => b"an element for osout is no byte",
+        Trap::WindowSize => b"the size of the window is outside 1 to 65536",
+        Trap::Move => b"the burst or the tick is outside 0 to 65536",
+        Trap::OutputBurst => b"the burst of the output window isn't its size",
+    }
+}
+
+/// The trap with a code; none where the code isn't one from 1 to 8.
+fn of_code(code: u8) -> Option<Trap>
+    ensures { result ≡ trap_of code }
+{
+    match code {
+        1 => Some(Trap::Operator(OperatorTrap::Overflow)),
+        2 => Some(Trap::Operator(OperatorTrap::DivisorZero)),
+        3 => Some(Trap::Operator(OperatorTrap::Shift)),
+        4 => Some(Trap::Index),
+        5 => Some(Trap::NoByte),
+        6 => Some(Trap::WindowSize),
+        7 => Some(Trap::Move),
+        8 => Some(Trap::OutputBurst),
+        _ => None,
+    }
+}
+
+/// A trap in words, by its code.
 pub(crate) fn trap_text(code: u8) -> &'static [u8]
     ensures { result.now ≡ trap_text code }
 {
-    match code {
-        1 => b"overflow, the result is no int",
-        2 => b"division by zero",
-        3 =>
-            b"a shift by less than 0 or more than 31, or to the left of a negative number or out of int",
-        4 => b"the index is outside the array, the view or the stream array",
-        5 => b"an element for osout is no byte",
-        6 => b"the size of the window is outside 1 to 65536",
-        7 => b"the burst or the tick is outside 0 to 65536",
-        _ => b"the burst of the output window isn't its size",
+    match of_code(code) {
+        Some(trap) => trap_words(trap),
+        None => b"a code that no trap has",
     }
 }
 
