@@ -1,6 +1,6 @@
 use Rattle.std.proofs.Common.{◌++◌, ◌∷◌, [], List, refl, ap, ◌∙◌}
 use Rattle.flow_core_laws.specs.declared.activation.Activation.{Activation}
-use Rattle.control_run.proofs.InPlace.{added-none, added-one, fits-there, made-more, made-same, written-back}
+use Rattle.control_run.proofs.InPlace.{added-none, added-one, made-more, made-same, written-back}
 use Rattle.control_run.proofs.spare.Spare.spawn.Goals as goal
 
 pub returns-in-Some-clause-list : goal.returns-in-Some-clause-list
