@@ -149,18 +149,9 @@ module _ (code : Code) (input : List ℕ) (budgets : Budgets) where
     pub as_many_ends : (after : Held) → IsHeldOf (parts_of code) all input budgets.task after → length after.ends.ends ≡ length all
     as_many_ends after meant = ap length meant.is_meant.ends_are_meant ∙ length-ends all input (frame_outcome (parts_of code) all budgets.task)
 
-    -- where nothing has ended, the list has all
-    pub are_all : run.held.ends.ends ≡ [] → run.activations ≡ all
-    are_all nothing = stands.are_last ∙ ap (λ n. drop n all) none
-      where
-        none : run.first ≡ 0
-        none = by (cases_lt 0 run.first)
-          where
-            by : (0 < run.first) ⊎ (run.first ≤ 0) → run.first ≡ 0
-            by (inl some) =
-                let no : false ≡ true = sym (ap (λ (es : List (Option TaskEnd)). has_end_at es 0) nothing) ∙ stands.have_ended 0 some in
-                absurd (cc)
-            by (inr few) = omega arith
+    -- where the list begins with the first one, it has all
+    pub are_all : run.first ≡ 0 → run.activations ≡ all
+    are_all first = stands.are_last ∙ ap (λ n. drop n all) first
 
     module _ (at_most : ℕ) (after : RunSoFar) (empty next : List Activation) (is_empty : empty ≡ []) (advance : HasAdvanced at_most run.control after empty next) where
       abbrev count : ℕ

@@ -1,12 +1,13 @@
 -- Stretches of the control program, one behind the other.
-use Rattle.std.proofs.Common.{◌≡◌, ℕ, ◌+◌, ◌<◌, ◌≤◌, ◌⊎◌, inl, inr, false, List, ◌++◌, length, take, drop, sym, ap, ◌∙◌, arith}
+use Rattle.std.proofs.Common.{◌≡◌, ℕ, ◌+◌, ◌<◌, ◌≤◌, ◌⊎◌, inl, inr, false, List, [], ◌++◌, length, take, drop, refl, sym, ap, ◌∙◌, arith}
 use Rattle.std.specs.Prelude.{nat_lt}
 use Rattle.std.proofs.lemmas.Bool.{cases_lt, le-ltb, lt-ltb, ltb-false}
 use Rattle.std.proofs.lemmas.List.{append_assoc, drop-drop, length-append, length-drop, length-take-le}
+use Rattle.std.proofs.lemmas.List.Prefix.{front_rest}
 use Rattle.std.proofs.Math.Seq.{take-add}
 use Rattle.control_run.specs.Stretches.{RunSoFar, advanced, given_by, remaining, whole}
 use Rattle.flow_core_laws.specs.declared.activation.Activation.{Activation}
-use Rattle.epoch_run.specs.Standing.{HasCreated}
+use Rattle.epoch_run.specs.Standing.{HasAdvanced, HasCreated}
 
 module _ (m n : ℕ) (before between after : RunSoFar) (list longer longest : List Activation) (enough : nat_lt (length (remaining before)) m ≡ false)
     (one : HasCreated m before between list longer) (two : HasCreated n between after longer longest) where
@@ -59,3 +60,29 @@ module _ (m n : ℕ) (before between after : RunSoFar) (list longer longest : Li
     fit = two.fit;
     lawful = two.lawful;
   }
+
+-- the new ones, apart from the list behind which they stand
+module _ (at_most : ℕ) (before after : RunSoFar) (list longer : List Activation) (advance : HasAdvanced at_most before after list longer) where
+  abbrev pub new_ones : List Activation
+  new_ones = take advance.count (remaining before)
+
+  pub are_new : HasAdvanced at_most before after [] new_ones
+  are_new = record {
+    count = advance.count;
+    some = advance.some;
+    few = advance.few;
+    created = record {
+      is_list = refl;
+      is_run = advance.created.is_run;
+      joined = advance.created.joined;
+      all = advance.created.all;
+      fit = advance.created.fit;
+      lawful = advance.created.lawful;
+    };
+  }
+
+  pub no_shorter : length list ≤ length longer
+  no_shorter = let l = ap length advance.created.is_list ∙ length-append list new_ones in omega (arith, l)
+
+  pub stand_behind : (items : List Activation) (first : ℕ) (slice : List Activation) → items ≡ longer → first ≡ length list → slice ≡ drop first items → slice ≡ new_ones
+  stand_behind items first slice all from is = is ∙ ap (drop first) all ∙ ap (λ n. drop n longer) from ∙ front_rest longer list new_ones advance.created.is_list

@@ -1,5 +1,5 @@
 -- Where a run stands between two epochs.
-use Rattle.std.specs.Prelude.{◌≡◌, ℕ, ◌<◌, ◌≤◌, true, nat_lt, All, List, ◌++◌, drop, length, take}
+use Rattle.std.specs.Prelude.{◌≡◌, ℕ, ◌<◌, ◌≤◌, true, nat_lt, All, List, [], ◌++◌, drop, length, take}
 use Rattle.control_run.specs.Stretches.{RunSoFar, advanced, given_by, remaining, whole}
 use Rattle.flow_core_laws.specs.Outcome.{has_end_at}
 use Rattle.flow_core_laws.specs.declared.activation.Activation.{Activation}
@@ -8,6 +8,7 @@ use Rattle.os_code.specs.Tasks.{Fits}
 use Rattle.os_code.specs.declared.code.Code.{Code}
 use Rattle.stream_match_layouts.specs.Lawful.{AreLawful}
 use Rattle.stream_match_layouts.specs.Layout.{IsLayoutOf}
+use Rattle.stream_match_layouts.specs.declared.layout.Layout.{Layout}
 use Rattle.epoch_run.specs.Held.{IsHeldBefore, IsHeldOf}
 use Rattle.epoch_run.specs.declared.result.Budgets.{Budgets}
 use Rattle.epoch_run.specs.declared.standing.Standing.{Standing}
@@ -28,6 +29,18 @@ pub record HasAdvanced (at_most : ℕ) (before after : RunSoFar) (list added_to 
   pub some : 1 ≤ count
   pub few : count ≤ at_most
   pub created : HasCreated count before after list added_to
+
+-- it has created the next ones, whatever they are
+pub record HasMoved (at_most : ℕ) (before after : RunSoFar) : Type 0 where
+  pub next : List Activation
+  pub advanced : HasAdvanced at_most before after [] next
+
+-- it has created the next ones, which stand behind those of a list, and the layout of all that came before has them too
+pub record HasCreatedNext (at_most : ℕ) (before after : RunSoFar) (list longer : List Activation) (layout longer_layout : Layout) : Type 0 where
+  pub next : List Activation
+  pub advanced : HasAdvanced at_most before after [] next
+  pub are_behind : longer ≡ list ++ next
+  pub laid : (earlier : List Activation) → IsLayoutOf layout earlier → IsLayoutOf longer_layout (earlier ++ next)
 
 -- The activations so far are those that the control program of a code has created, and they are laid out; what is held is
 -- that of those before the epoch that comes. The list has all from a number on, and those before it have ended.

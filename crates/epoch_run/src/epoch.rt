@@ -134,6 +134,15 @@ fn frames_of(
     Ok(frames)
 }
 
+/// Whether none of the activations of a layout is found to wait, where none has an end.
+pub(crate) fn none_waits(alloc: Global, layout: &Layout) -> Result<bool, Memory>
+    requires { IsLayout layout.now }
+{
+    let all = with_new(List::new(alloc), &[], layout.frames() as u32)?;
+    let frames = ready_frames(alloc, layout, all.as_slice())?;
+    Ok(frames.len() == layout.frames())
+}
+
 /// Runs some of these activations, which are those that have no end yet: what is left out of the frames waits.
 fn run_these<R: Threads + Sync, G: Gate>(
     rt: &R,

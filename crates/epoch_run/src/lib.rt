@@ -8,8 +8,8 @@
 //! Between two epochs stand the ends and the output of the activations so far, as these alone mean them, and the elements
 //! that later ones may read. The frames of an epoch are activations that have no end yet: the new ones, and those of
 //! earlier epochs that can run by now; what still waits is left out (`epoch_run_ready`), and costs a look in each epoch. So the
-//! plan and the cells of one epoch alone are held at once. Where all activations come in the first epoch, they are run by the plan
-//! of the whole run, and nothing is carried over.
+//! plan and the cells of one epoch alone are held at once. Where none has ended before the control program has, and none is found to wait
+//! then, all are run by the plan of the whole run, and nothing is carried over.
 //!
 //! Where nobody waits and bodies are short, `run_epochs` goes on in control order instead (`epoch_run_in_order`): activations run one
 //! after the other, with no plan, until one of them doesn't find there what it reads. What ran is then held as after an epoch.

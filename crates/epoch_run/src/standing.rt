@@ -1,4 +1,4 @@
-ghost use Rattle.std.specs.Prelude.{◌≡◌, ◌<◌, ◌≤◌, ℕ, List, [], None, IfOk, IfSome, IsTrue, OnOk, length};
+ghost use Rattle.std.specs.Prelude.{◌≡◌, ◌<◌, ◌≤◌, ℕ, List, [], None, IfOk, IfSome, IsTrue, OnOk, length, true};
 ghost use Rattle.control_run.specs.Stretches.{given_by};
 ghost use Rattle.flow_core_laws.specs.declared.activation.Activation.{Activation};
 ghost use Rattle.os_code.specs.Codes.{parts_of};
@@ -8,13 +8,13 @@ ghost use Rattle.stream_match_layouts.specs.Layout.{IsLayout, IsLayoutOf};
 ghost use Rattle.epoch_run_bodies.specs.Frames.{code_ends};
 ghost use Rattle.epoch_run.specs.NextSpans.{ComeBehind};
 ghost use Rattle.epoch_run.specs.Run.{AreBudgets, created};
-ghost use Rattle.epoch_run.specs.Standing.{HasAdvanced, HasRun, StandsAt};
+ghost use Rattle.epoch_run.specs.Standing.{HasAdvanced, HasMoved, HasRun, StandsAt};
 ghost use Rattle.epoch_run.specs.declared.result.Budgets.{Budgets};
 
-use crate::adding::add;
+use crate::adding::{add, create_behind};
 use crate::at_once::run_at_once;
-use crate::beside::{advance, run_and_advance};
-use crate::epoch::run_epoch;
+use crate::beside::run_and_advance;
+use crate::epoch::{none_waits, run_epoch};
 use crate::held::Held;
 use crate::in_order::run_in_order;
 use crate::next_spans::NextSpans;
@@ -178,17 +178,12 @@ impl<'c> Standing<'c> {
         ensures all { IfOk result (λ end. IfSome end (λ _. given_by self.new.control ≡ created (parts_of code.now) input.now budgets)) }
         ensures end { IfOk result (λ end. IfSome end (λ e. e ≡ (control (parts_of code.now) (length input.now) budgets.control).end)) }
     {
-        let mut next = List::new(alloc);
-        let laid = self.run_and_create(
-            rt, alloc, code, input, budgets, workers, gate, &mut next, size,
-        )?;
-        add(alloc, &mut self.activations, &mut self.layout, next, laid)?;
+        self.run_and_create(rt, alloc, code, input, budgets, workers, gate, size)?;
         Ok(self.control.end())
     }
 
-    /// Runs an epoch, and has the control program create the new activations of the next one, behind those of a list: beside the
-    /// epoch where several workers run it. One worker gives up what has ended before more is created, so that one epoch's
-    /// activations alone are held. It answers their positions where they were worked out beside the epoch too.
+    /// Runs an epoch, and has the control program create the new activations of the next one: beside the epoch where several workers run
+    /// it.
     fn run_and_create<R: Threads + Sync, G: Gate>(
         &mut self,
         rt: &R,
@@ -198,27 +193,77 @@ impl<'c> Standing<'c> {
         budgets: Budgets,
         workers: u32,
         gate: &G,
-        next: &mut List<Activation>,
         size: EpochSize,
-    ) -> Result<Option<NextSpans>, Memory>
+    ) -> Result<(), Memory>
         requires workers { (1 ≤ workers) × (workers ≤ 64) }
         requires budgets { AreBudgets budgets }
         requires stands { StandsAt code.now input.now budgets self.old }
         requires some { 1 ≤ size.activations }
-        requires none { next.old ≡ [] }
-        ensures run { OnOk result (HasRun code.now input.now budgets (given_by self.old.control) self.new) }
-        ensures advanced { OnOk result (HasAdvanced size.activations self.old.control self.new.control next.old next.new) }
-        ensures layout { OnOk result (self.new.layout ≡ self.old.layout) }
-        ensures laid { IfOk result (λ laid. IfSome laid (λ spans. ComeBehind self.old.layout next.new spans)) }
+        ensures stands { OnOk result (StandsAt code.now input.now budgets self.new) }
+        ensures advanced { OnOk result (HasMoved size.activations self.old.control self.new.control) }
     {
         if workers > 1 && self.has_new() {
-            let laid = self.run_beside(rt, alloc, code, input, budgets, workers, gate, next, size)?;
-            return Ok(Some(laid));
+            return self.create_beside(rt, alloc, code, input, budgets, workers, gate, size);
         }
+        self.run_then_create(rt, alloc, code, input, budgets, workers, gate, size)
+    }
+
+    /// Runs an epoch, and then has the control program create the new activations of the next one behind those that wait. What has
+    /// ended is given up before, so that one epoch's activations alone are held where none waits.
+    fn run_then_create<R: Threads + Sync, G: Gate>(
+        &mut self,
+        rt: &R,
+        alloc: Global,
+        code: &Code,
+        input: &[u8],
+        budgets: Budgets,
+        workers: u32,
+        gate: &G,
+        size: EpochSize,
+    ) -> Result<(), Memory>
+        requires workers { (1 ≤ workers) × (workers ≤ 64) }
+        requires budgets { AreBudgets budgets }
+        requires stands { StandsAt code.now input.now budgets self.old }
+        requires some { 1 ≤ size.activations }
+        ensures stands { OnOk result (StandsAt code.now input.now budgets self.new) }
+        ensures advanced { OnOk result (HasMoved size.activations self.old.control self.new.control) }
+    {
         self.run(rt, alloc, code, input, budgets, workers, gate)?;
         self.give_up_ended(alloc);
-        advance(&mut self.control, next, size)?;
-        Ok(None)
+        create_behind(
+            &mut self.control,
+            &mut self.activations,
+            &mut self.layout,
+            size,
+        )?;
+        Ok(())
+    }
+
+    /// Runs an epoch, and at once has the control program create the new activations of the next one.
+    fn create_beside<R: Threads + Sync, G: Gate>(
+        &mut self,
+        rt: &R,
+        alloc: Global,
+        code: &Code,
+        input: &[u8],
+        budgets: Budgets,
+        workers: u32,
+        gate: &G,
+        size: EpochSize,
+    ) -> Result<(), Memory>
+        requires workers { (1 ≤ workers) × (workers ≤ 64) }
+        requires budgets { AreBudgets budgets }
+        requires stands { StandsAt code.now input.now budgets self.old }
+        requires some { 1 ≤ size.activations }
+        ensures stands { OnOk result (StandsAt code.now input.now budgets self.new) }
+        ensures advanced { OnOk result (HasMoved size.activations self.old.control self.new.control) }
+    {
+        let mut next = List::new(alloc);
+        let laid = self.run_beside(
+            rt, alloc, code, input, budgets, workers, gate, &mut next, size,
+        )?;
+        add(alloc, &mut self.activations, &mut self.layout, next, laid)?;
+        Ok(())
     }
 
     /// Whether some of the activations are new.
@@ -228,7 +273,8 @@ impl<'c> Standing<'c> {
         self.held.ends.ends.len() < self.layout.frames()
     }
 
-    /// Does both at once.
+    /// Runs an epoch, and at once has the control program create the new activations of the next one, behind those of a list, and works out
+    /// their positions.
     fn run_beside<R: Threads + Sync, G: Gate>(
         &mut self,
         rt: &R,
@@ -330,7 +376,7 @@ impl<'c> Standing<'c> {
         }
     }
 
-    /// Runs the last epoch. Where it is the first one too, its plan is that of the whole run.
+    /// Runs the last epoch. Where no activation has ended and none is found to wait, its plan is that of the whole run.
     pub(crate) fn run_last<R: Threads + Sync, G: Gate>(
         &mut self,
         rt: &R,
@@ -349,14 +395,29 @@ impl<'c> Standing<'c> {
         ensures input { OnOk result (self.new.layout.input_len ≡ length input.now) }
         ensures ends { OnOk result (self.new.held.ends ≡ code_ends (parts_of code.now) (given_by self.old.control) input.now budgets.task) }
     {
-        if self.held.ends.ends.len() == 0 {
-            self.run_at_once(rt, alloc, code, input, budgets, workers, gate)
-        } else {
-            self.run_rest(rt, alloc, code, input, budgets, workers, gate)
+        let all = self.runs_all(alloc)?;
+        if all {
+            return self.run_at_once(rt, alloc, code, input, budgets, workers, gate);
         }
+        self.run_rest(rt, alloc, code, input, budgets, workers, gate)
     }
 
-    /// Runs all activations by one plan, where none has ended.
+    /// Whether all activations are to be run now: none has ended, and none is found to wait. What was never looked at isn't asked.
+    fn runs_all(&self, alloc: Global) -> Result<bool, Memory>
+        requires { IsLayout self.now.layout }
+        ensures { IfOk result (λ all. all ≡ true → self.now.first ≡ 0) }
+    {
+        if self.first > 0 || self.held.without_end.len() < self.held.ends.ends.len() {
+            return Ok(false);
+        }
+        if self.held.ends.ends.len() == 0 {
+            return Ok(true);
+        }
+        let all = none_waits(alloc, &self.layout)?;
+        Ok(all)
+    }
+
+    /// Runs all activations by one plan, where the list has all.
     fn run_at_once<R: Threads + Sync, G: Gate>(
         &mut self,
         rt: &R,
@@ -370,7 +431,7 @@ impl<'c> Standing<'c> {
         requires workers { (1 ≤ workers) × (workers ≤ 64) }
         requires budgets { AreBudgets budgets }
         requires stands { StandsAt code.now input.now budgets self.old }
-        requires none_ended { self.old.held.ends.ends ≡ [] }
+        requires all { self.old.first ≡ 0 }
         ensures layout { OnOk result (IsLayoutOf self.new.layout (given_by self.old.control)) }
         ensures whole { OnOk result (IsLayout self.new.layout) }
         ensures input { OnOk result (self.new.layout.input_len ≡ length input.now) }

@@ -1,31 +1,21 @@
-use Rattle.std.specs.Prelude.{IfSome}
-use Rattle.std.proofs.Common.{List, ap, length, subst, sym, ◌∙◌}
-use Rattle.flow_core_laws.specs.declared.activation.Activation.{Activation}
-use Rattle.stream_match_layouts.specs.Layout.{IsLayoutOf, TakesMore}
-use Rattle.stream_match_layouts.specs.declared.layout.Layout.{Layout}
-use Rattle.control_run.specs.Stretches.{given_by}
-use Rattle.epoch_run.specs.NextSpans.{ComeBehind}
-use Rattle.epoch_run.proofs.Going.{stands_next, takes_more}
+use Rattle.std.proofs.Common.{refl, []}
+use Rattle.epoch_run.proofs.Going.{all_created, end_is, grows}
 use Rattle.epoch_run.proofs.standing.Standing.go_on_in_epochs.Goals as goal
 
-pub add-requires-clause-takes : goal.add-requires-clause-takes
-add-requires-clause-takes g c =
-    subst (λ (l : Layout). TakesMore l c.run_and_create.new.next) (sym c.in_ok-laid.ensures.layout)
-    (takes_more c.args.code.now c.args.input.now c.args.budgets c.args.self.now c.requires.budgets c.requires.stands c.args.size.activations c.run_and_create.new.self.control
-    c.new-next.result c.run_and_create.new.next c.new-next.ensures c.in_ok-laid.ensures.advanced)
+pub returns-clause-grows : goal.returns-clause-grows
+returns-clause-grows g c =
+    let m = c.in_ok-run_and_create.ensures.advanced in
+    grows c.args.code.now c.args.input.now c.args.budgets c.args.self.now c.requires.budgets c.requires.stands c.args.size.activations c.run_and_create.new.self.control
+    [] m.next refl m.advanced c.end.result c.end.ensures
 
-pub add-requires-clause-laid : goal.add-requires-clause-laid
-add-requires-clause-laid g c =
-    subst (λ (l : Layout). IfSome c.in_ok-laid.laid (λ spans. ComeBehind l c.run_and_create.new.next spans)) (sym c.in_ok-laid.ensures.layout) c.in_ok-laid.ensures.laid
+pub returns-clause-all : goal.returns-clause-all
+returns-clause-all g c =
+    let m = c.in_ok-run_and_create.ensures.advanced in
+    all_created c.args.code.now c.args.input.now c.args.budgets c.args.self.now c.requires.budgets c.requires.stands c.args.size.activations c.run_and_create.new.self.control
+    [] m.next refl m.advanced c.end.result c.end.ensures
 
-pub returns-clause-stands : goal.returns-clause-stands
-returns-clause-stands g c =
-    let s = c.args.self.now in
-    let all : List Activation = given_by s.control in
-    let same = c.in_ok-laid.ensures.layout in
-    stands_next c.args.code.now c.args.input.now c.args.budgets s c.requires.budgets c.requires.stands c.args.size.activations c.run_and_create.new.self.control
-    c.new-next.result c.run_and_create.new.next c.new-next.ensures c.in_ok-laid.ensures.advanced
-    c.run_and_create.new.self c.in_ok-laid.ensures.run
-    c.add.new.activations c.add.new.layout c.in_ok-add.ensures.activations
-    (c.in_ok-add.ensures.laid all (subst (λ (l : Layout). IsLayoutOf l all) (sym same) c.requires.stands.laid))
-    (c.in_ok-add.ensures.streams ∙ ap (λ (l : Layout). length l.writers) same) (c.in_ok-add.ensures.input ∙ ap (λ (l : Layout). l.input_len) same)
+pub returns-clause-end : goal.returns-clause-end
+returns-clause-end g c =
+    let m = c.in_ok-run_and_create.ensures.advanced in
+    end_is c.args.code.now c.args.input.now c.args.budgets c.args.self.now c.requires.budgets c.requires.stands c.args.size.activations c.run_and_create.new.self.control
+    [] m.next refl m.advanced c.end.result c.end.ensures
