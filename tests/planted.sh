@@ -1,6 +1,6 @@
 #!/usr/bin/env bash
 # Tries planted bugs: for each crate that is named (all of them, where none is), the edits in tests/planted/CRATE, on a copy of this checkout.
-# Each turns a body into a wrong one, and the prover has to refuse it. The edits of the gate, in crates/CRATE/must-fail, are tried with them.
+# Each turns a body into a wrong one, and the prover has to refuse it. The edits that `rt ci` tries, in crates/CRATE/must-fail, are tried with them.
 # It begins with what checks in this checkout or another one on the machine kept; a crate that no check has proved yet is proved first.
 # The last line is `N passed, M failed`; before it stands each edit that got through or couldn't be tried. Status 1 where one did.
 #

@@ -1,5 +1,5 @@
 #!/usr/bin/env python3
-"""bench/gate.py [--write]: runs the gate, `rt ci`, in this checkout, and tells the processor minutes of each crate.
+"""bench/minutes.py [--write]: runs `rt ci` in this checkout, and tells the processor minutes of each crate.
 
 Call it in a fresh clone on a machine that has kept nothing, where the time from nothing is wanted: what an earlier run
 passed is not proved again. It prints a table of the minutes that proofs, tests and must-fail edits took, by crate in the
@@ -7,7 +7,7 @@ order of crates.txt, and their sum beside that of the whole run (which builds an
 works out how long a run takes on two processors and on four, where each does one check after another, and of those that
 can be begun the one with the longest chain behind it. With --write it puts the table into docs/WORKING.md, where a crate
 that was kept, and so took no time, stays as it stands. It looks at the processes once a second, so up to a second of each
-is missed. Its status is that of the gate."""
+is missed. Its status is that of `rt ci`."""
 import heapq
 import os
 import resource
@@ -107,10 +107,10 @@ def write(rows):
 
 def main():
     begun = time.time()
-    gate = subprocess.Popen(["rt", "ci"], cwd=TOP)
+    run = subprocess.Popen(["rt", "ci"], cwd=TOP)
     seen = {}
-    while gate.poll() is None:
-        for key, crate, kind, seconds in checks_below(gate.pid):
+    while run.poll() is None:
+        for key, crate, kind, seconds in checks_below(run.pid):
             seen[key] = crate, kind, seconds
         time.sleep(1)
     minutes = {}
@@ -120,11 +120,11 @@ def main():
     used = resource.getrusage(resource.RUSAGE_CHILDREN)
     print("\n".join(rows))
     print(f"proofs {sums[0]:.0f}, tests {sums[1]:.0f}, edits {sums[2]:.0f}: {sum(sums):.0f} of {(used.ru_utime + used.ru_stime) / 60:.0f} processor minutes")
-    print(f"{(time.time() - begun) / 60:.0f} minutes, status {gate.returncode}")
+    print(f"{(time.time() - begun) / 60:.0f} minutes, status {run.returncode}")
     print(f"by these minutes {spread(minutes, 2):.0f} on two processors, {spread(minutes, 4):.0f} on four")
     if "--write" in sys.argv[1:]:
         write(rows)
-    return gate.returncode
+    return run.returncode
 
 
 if __name__ == "__main__":
