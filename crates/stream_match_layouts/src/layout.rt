@@ -13,6 +13,10 @@ use flow_core_laws::{Activation, Claim};
 use os_io::{List, Memory};
 use std::alloc::Global;
 
+/// For how many spans a layout has room from the start. An allocator hands so large a block out untouched, and what isn't used of it costs
+/// nothing; a list that grows from less is copied several times.
+const ROOM: usize = 16_384;
+
 /// The positions of a list of activations, in control order.
 #[derive(Debug, Drop)]
 pub struct Layout {
@@ -46,6 +50,7 @@ impl Layout {
             writes: List::new(alloc),
             input_len,
         };
+        layout.spans.reserve(ROOM)?;
         layout.starts.push(0)?;
         layout.writers.reserve(streams as usize)?;
         layout.reads.reserve(streams as usize)?;
@@ -114,6 +119,7 @@ impl Layout {
     }
 
     /// Adds a claim of an activation, where its windows before this one take so many inputs or outputs.
+    #[inline(always)]
     fn take(&mut self, frame: u16, claim: &Claim, offset: u32) -> Result<(), Memory>
         requires { HasRoom self.old claim.now }
         ensures { OnOk result (self.new ≡ with_claim self.old frame claim.now offset) }

@@ -13,17 +13,12 @@ pub(crate) struct ItemRange {
     pub horizon: u32,
 }
 
-/// The ranges of the items, in order; an item that isn't there has an empty range.
-pub(crate) fn ranges(claims: &[Claim]) -> [ItemRange; 8]
+/// Sets the ranges of the items, in order. Those of items that aren't there stay as they were.
+pub(crate) fn set_ranges(claims: &[Claim], ranges: &mut [ItemRange; 8])
     requires few { length claims.now ≤ 8 }
     requires small { sum_by (λ (claim : TheClaim). claim.horizon) claims.now ≤ 524288 }
-    ensures { take (length claims.now) result ≡ ranges_of claims.now 0 0 }
+    ensures { take (length claims.now) ranges.new ≡ ranges_of claims.now 0 0 }
 {
-    let mut ranges = [ItemRange {
-        write: false,
-        first: 0,
-        horizon: 0,
-    }; 8];
     let mut inputs: u32 = 0;
     let mut outputs: u32 = 0;
     for (item, claim) in claims.iter().enumerate() {
@@ -39,5 +34,4 @@ pub(crate) fn ranges(claims: &[Claim]) -> [ItemRange; 8]
             inputs += claim.horizon;
         }
     }
-    ranges
 }

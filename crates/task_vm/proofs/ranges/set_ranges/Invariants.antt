@@ -1,7 +1,7 @@
 use Rattle.std.proofs.Common.{◌≡◌, ◌+◌, ◌++◌, length, take, drop, sum_by}
 use Rattle.flow_core_laws.specs.declared.claim.Claim.{Claim as TheClaim}
 use Rattle.task_vm.specs.ItemRanges.{ranges_of}
-use Rattle.task_vm.proofs.ranges.ranges.Given as goal
+use Rattle.task_vm.proofs.ranges.set_ranges.Given as goal
 
 abbrev pub invariant-loop-item : goal.invariant-loop-item
 invariant-loop-item l = record {
