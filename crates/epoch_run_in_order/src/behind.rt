@@ -23,6 +23,10 @@ use stream_match::Kept;
 use stream_match_layouts::Layout;
 use task_vm::Scratch;
 
+/// For how many more ends, and elements of the output, there is room from the start. An allocator hands so large a block out untouched, and
+/// what isn't used of it costs nothing; a list that grows from less is copied several times.
+const ROOM: usize = 32_768;
+
 impl InOrder {
     /// A run that goes on behind activations that all have ended: from how they ended, from the elements of the output, and from what
     /// else of them may still be read. It takes memory for what the code's tasks need, and for each of these elements.
@@ -44,9 +48,15 @@ impl InOrder {
     {
         in_order_and_in_epochs();
         let scratch = Scratch::new(alloc, code)?;
-        let streams = streams_behind(alloc, layout, ends.output, kept)?;
+        let Ends {
+            mut ends,
+            mut output,
+        } = ends;
+        ends.reserve(ROOM)?;
+        output.reserve(ROOM)?;
+        let streams = streams_behind(alloc, layout, output, kept)?;
         let order = InOrder {
-            ends: ends.ends,
+            ends,
             streams,
             inputs: Inputs::new(alloc),
             outputs: Vec::new(alloc),
