@@ -15,6 +15,10 @@ use stream_match::Stretch;
 /// The largest power of two.
 const MOST_ROOM: usize = 1 << 63;
 
+/// For how many items a list has room from the start. An allocator hands so large a block out untouched, and what isn't used of it costs
+/// nothing; a list that grows from less is copied several times, and leaves a hole behind each time.
+const ROOM: usize = 1 << 20;
+
 /// Puts the ends of an epoch's frames over those of so many activations.
 pub(crate) fn take_ends(
     ends: &mut List<Option<TaskEnd>>,
@@ -63,13 +67,13 @@ fn grow<T: Drop>(list: &mut List<Option<T>>, count: usize) -> Result<(), Memory>
     Ok(())
 }
 
-/// How many items a list that grows to so many is to have room for: so it has twice as many at most, and just so many where
-/// that is a power of two.
+/// How many items a list that grows to so many is to have room for: at least a million, and else twice as many at most, and just so many
+/// where that is a power of two.
 fn room_for(count: usize) -> usize {
     if count > MOST_ROOM {
         return count;
     }
-    count.next_power_of_two()
+    count.next_power_of_two().max(ROOM)
 }
 
 /// Puts the elements that left an epoch at their positions of the output, the last stretch first.
