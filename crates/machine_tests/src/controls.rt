@@ -5,7 +5,6 @@ use crate::written::code_of;
 use control_run::run_control;
 use flow_core_laws::{Claim, Control, ControlEnd};
 use os_code::{Binary, Code, Instr, SiteItem, Unit};
-use os_io::Memory;
 use std::alloc::Global;
 use std::test::Fail;
 
@@ -47,7 +46,7 @@ fn is_made(control: &Control, number: usize, captured: &[i32], claims: [Claim; 2
 
 /// One `Spawn` of an input item on the stream of number 1 or behind it, and of an output item there with a window.
 /// Captured are the slots 2 and 0.
-fn spawning(alloc: Global, window: i32, operands: [i32; 4]) -> Result<Control, Memory> {
+fn spawning(alloc: Global, window: i32, operands: [i32; 4]) -> Result<Control, Fail> {
     run_written(
         alloc,
         &[
@@ -96,7 +95,7 @@ fn spawning(alloc: Global, window: i32, operands: [i32; 4]) -> Result<Control, M
 }
 
 /// Ticks of 3 and of an amount, a `Spawn` of two windows on the input, and the same again with one tick.
-fn ticking(alloc: Global, stream: i32, amount: i32, budget: u32) -> Result<Control, Memory> {
+fn ticking(alloc: Global, stream: i32, amount: i32, budget: u32) -> Result<Control, Fail> {
     run_written(
         alloc,
         &[
@@ -159,7 +158,7 @@ fn ticking(alloc: Global, stream: i32, amount: i32, budget: u32) -> Result<Contr
 
 /// A loop that creates so many activations: each reads one position of the input with its number and `more` as burst,
 /// and writes a window.
-pub(crate) fn loop_code(alloc: Global, times: i32, window: i32, more: i32) -> Result<Code, Memory> {
+pub(crate) fn loop_code(alloc: Global, times: i32, window: i32, more: i32) -> Result<Code, Fail> {
     code_of(
         alloc,
         &[
@@ -231,9 +230,10 @@ fn looping(
     window: i32,
     more: i32,
     budget: u32,
-) -> Result<Control, Memory> {
+) -> Result<Control, Fail> {
     let code = loop_code(alloc, times, window, more)?;
-    run_control(alloc, &code, 0, u64::from(budget.min(1000000000)))
+    let control = run_control(alloc, &code, 0, u64::from(budget.min(1000000000)))?;
+    Ok(control)
 }
 
 #[test]
