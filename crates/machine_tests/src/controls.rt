@@ -5,6 +5,7 @@ use crate::written::code_of;
 use control_run::run_control;
 use flow_core_laws::{Claim, Control, ControlEnd};
 use os_code::{Binary, Code, Instr, SiteItem, Unit};
+use os_io::Memory;
 use std::alloc::Global;
 use std::test::Fail;
 
@@ -46,7 +47,7 @@ fn is_made(control: &Control, number: usize, captured: &[i32], claims: [Claim; 2
 
 /// One `Spawn` of an input item on the stream of number 1 or behind it, and of an output item there with a window.
 /// Captured are the slots 2 and 0.
-fn spawning(alloc: Global, window: i32, operands: [i32; 4]) -> Result<Control, Fail> {
+fn spawning(alloc: Global, window: i32, operands: [i32; 4]) -> Result<Control, Memory> {
     run_written(
         alloc,
         &[
@@ -95,7 +96,7 @@ fn spawning(alloc: Global, window: i32, operands: [i32; 4]) -> Result<Control, F
 }
 
 /// Ticks of 3 and of an amount, a `Spawn` of two windows on the input, and the same again with one tick.
-fn ticking(alloc: Global, stream: i32, amount: i32, budget: u32) -> Result<Control, Fail> {
+fn ticking(alloc: Global, stream: i32, amount: i32, budget: u32) -> Result<Control, Memory> {
     run_written(
         alloc,
         &[
@@ -158,7 +159,7 @@ fn ticking(alloc: Global, stream: i32, amount: i32, budget: u32) -> Result<Contr
 
 /// A loop that creates so many activations: each reads one position of the input with its number and `more` as burst,
 /// and writes a window.
-pub(crate) fn loop_code(alloc: Global, times: i32, window: i32, more: i32) -> Result<Code, Fail> {
+pub(crate) fn loop_code(alloc: Global, times: i32, window: i32, more: i32) -> Result<Code, Memory> {
     code_of(
         alloc,
         &[
@@ -230,10 +231,9 @@ fn looping(
     window: i32,
     more: i32,
     budget: u32,
-) -> Result<Control, Fail> {
+) -> Result<Control, Memory> {
     let code = loop_code(alloc, times, window, more)?;
-    let control = run_control(alloc, &code, 0, u64::from(budget.min(1000000000)))?;
-    Ok(control)
+    run_control(alloc, &code, 0, u64::from(budget.min(1000000000)))
 }
 
 #[test]

@@ -92,7 +92,7 @@ fn is_same(one: &Control, other: &Control) -> bool {
 }
 
 /// Whether a run of a loop gives the same by stretches as at once, and what the case says.
-fn gives_the_same(alloc: Global, case: &Case, at_most: u32) -> Result<bool, Fail>
+fn gives_the_same(alloc: Global, case: &Case, at_most: u32) -> Result<bool, Memory>
     requires { 1 ≤ at_most }
 {
     let (times, window, more, budget, count, end, steps, turns) = *case;

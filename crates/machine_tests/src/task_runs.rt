@@ -1,14 +1,14 @@
 //! Tasks written out, which run twice with one scratch.
 
 ghost use Rattle.std.specs.Prelude.{◌≡◌, ◌≤◌, length, true, IfOk};
-ghost use Rattle.machine_tests.specs.Written.{is_run};
+ghost use Rattle.os_code.specs.Checking.{is_valid};
+ghost use Rattle.machine_tests.specs.Written.{is_run, written};
 
-use crate::written::code_of;
+use crate::written::{code_of, list_of};
 use flow_core_laws::{Activation, Claim, TaskEnd};
 use os_code::{Instr, SiteItem, Unit};
-use os_io::{List, Memory};
+use os_io::Memory;
 use std::alloc::Global;
-use std::test::Fail;
 use task_vm::{Scratch, run_task};
 
 /// A run's end, how many steps it made, and how many turns of its budget it took.
@@ -27,8 +27,8 @@ fn activation_of(alloc: Global, values: &[i32], claims: &[Claim]) -> Result<Acti
 {
     Ok(Activation {
         site: 0,
-        captured: List::from_slice(alloc, values)?,
-        claims: List::from_slice(alloc, claims)?,
+        captured: list_of(alloc, values)?,
+        claims: list_of(alloc, claims)?,
     })
 }
 
@@ -45,9 +45,10 @@ pub(crate) fn run_twice(
     first: (&[i32], u64),
     second: (&[i32], u64),
     outputs: &mut [i32],
-) -> Result<(Ran, Ran), Fail>
+) -> Result<(Ran, Ran), Memory>
     requires some { 1 ≤ length units.now }
     requires few { length units.now ≤ 1000 }
+    requires valid { is_valid (written instrs.now units.now task captured.now items.now) ≡ true }
     requires first { is_run captured.now items.now first.0.now claims.now (length inputs.now) (length outputs.old) ≡ true }
     requires second { is_run captured.now items.now second.0.now claims.now (length inputs.now) (length outputs.old) ≡ true }
     requires budget { first.1 ≤ 1000000000 }

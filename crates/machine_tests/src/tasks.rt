@@ -1,5 +1,10 @@
 //! Tasks that were worked out by hand: the ends, the steps and what is written.
 
+ghost use Rattle.std.specs.Prelude.{◌≡◌, true};
+ghost use Rattle.std.specs.List.{list_all};
+ghost use Rattle.os_code.specs.Checking.{is_valid};
+ghost use Rattle.machine_tests.specs.Written.{alone};
+
 mod alone;
 mod drawn;
 mod forms;
@@ -11,6 +16,7 @@ use drawn::DRAWN;
 use flow_core_laws::{Claim, TaskEnd};
 use forms::{FORMS, FORMS_OF_WINDOWS_AND_OPERATORS};
 use os_code::{Binary, Instr, SiteItem, Unary, Unit};
+use os_io::Memory;
 use std::alloc::Global;
 use std::process::Abort;
 use std::test::Fail;
@@ -47,7 +53,9 @@ fn taking(turns: u64, ran: Ran) -> Ran {
 }
 
 /// Whether a body comes to what each of its runs says, where the last of them was made before with the same scratch.
-fn comes_to(rt: &(impl AllocGlobal + Abort), body: &[Instr], runs: &[Run]) -> Result<(), Fail> {
+fn comes_to(rt: &(impl AllocGlobal + Abort), body: &[Instr], runs: &[Run]) -> Result<(), Fail>
+    requires { is_valid (alone body.now) ≡ true }
+{
     assert!(rt; body.len() <= 1000);
     let Some(last) = runs.last() else {
         return Err(Fail::from("a body without runs"));
@@ -70,7 +78,9 @@ fn comes_to(rt: &(impl AllocGlobal + Abort), body: &[Instr], runs: &[Run]) -> Re
 }
 
 /// Whether each body comes to what its runs say.
-fn all_come_to(rt: &(impl AllocGlobal + Abort), cases: &[Case<'_>]) -> Result<(), Fail> {
+fn all_come_to(rt: &(impl AllocGlobal + Abort), cases: &[Case<'_>]) -> Result<(), Fail>
+    requires { list_all (λ case. is_valid (alone case.0.now)) cases.now ≡ true }
+{
     for case in cases {
         comes_to(rt, case.0, case.1)?;
     }
@@ -78,7 +88,7 @@ fn all_come_to(rt: &(impl AllocGlobal + Abort), cases: &[Case<'_>]) -> Result<()
 }
 
 /// How an operator on two captured values ends, and what it gives.
-fn binary(alloc: Global, op: Binary, values: [i32; 2]) -> Result<(Ran, i32), Fail> {
+fn binary(alloc: Global, op: Binary, values: [i32; 2]) -> Result<(Ran, i32), Memory> {
     let body = [
         Instr::Push(0),
         Instr::Load(0),
@@ -92,7 +102,7 @@ fn binary(alloc: Global, op: Binary, values: [i32; 2]) -> Result<(Ran, i32), Fai
 }
 
 /// How an operator on a captured value ends, and what it gives.
-fn unary(alloc: Global, op: Unary, value: i32) -> Result<(Ran, i32), Fail> {
+fn unary(alloc: Global, op: Unary, value: i32) -> Result<(Ran, i32), Memory> {
     let body = [
         Instr::Push(0),
         Instr::Load(0),
@@ -109,7 +119,7 @@ fn deep(
     alloc: Global,
     first: (i32, u64),
     second: (i32, u64),
-) -> Result<(Ran, Ran, [i32; 1]), Fail> {
+) -> Result<(Ran, Ran, [i32; 1]), Memory> {
     let instrs = [
         Instr::Push(1),
         Instr::Load(0),
@@ -196,7 +206,7 @@ fn deep(
 }
 
 /// Writes into the fourth and into the eighth of eight windows, whose sizes are 1 to 8.
-fn eight(alloc: Global, first: i32, second: i32) -> Result<(Ran, Ran, [i32; 36]), Fail> {
+fn eight(alloc: Global, first: i32, second: i32) -> Result<(Ran, Ran, [i32; 36]), Memory> {
     let instrs = [
         Instr::Load(0),
         Instr::Push(9),

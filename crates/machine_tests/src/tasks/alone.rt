@@ -1,14 +1,15 @@
 //! A body that is run alone: a task over a window of three inputs, 10, 20 and 30, one of two outputs, and an output that
 //! goes to `osout`; and a function that adds 1 and a slot of its own to its argument, keeps the sum in that slot, and leaves a 9 behind.
 
-ghost use Rattle.std.specs.Prelude.{◌≤◌, length};
+ghost use Rattle.std.specs.Prelude.{◌≡◌, ◌≤◌, ◌++◌, IfOk, length, true};
+ghost use Rattle.os_code.specs.Checking.{is_valid};
+ghost use Rattle.machine_tests.specs.Written.{alone};
 
 use crate::task_runs::{Ran, run_twice};
 use flow_core_laws::Claim;
 use os_code::{Binary, Instr, SiteItem, Unit};
 use os_io::Memory;
 use std::alloc::Global;
-use std::test::Fail;
 
 /// What stands behind a body: the function, and `main`.
 const BEHIND: [Instr; 10] = [
@@ -78,8 +79,9 @@ pub(crate) fn run_alone(
     body: &[Instr],
     first: ([i32; 2], u64),
     second: ([i32; 2], u64),
-) -> Result<(Ran, Ran, [i32; 3]), Fail>
+) -> Result<(Ran, Ran, [i32; 3]), Memory>
     requires short { length body.now ≤ 1000 }
+    requires valid { is_valid (alone body.now) ≡ true }
     requires budget { first.1 ≤ 1000000000 }
     requires other_budget { second.1 ≤ 1000000000 }
 {
@@ -123,7 +125,9 @@ pub(crate) fn run_alone(
 }
 
 /// The instructions of a body and what stands behind it.
-fn with_behind(alloc: Global, body: &[Instr]) -> Result<Vec<Instr>, Memory> {
+fn with_behind(alloc: Global, body: &[Instr]) -> Result<Vec<Instr>, Memory>
+    ensures { IfOk result (λ instrs. instrs.items ≡ body.now ++ BEHIND) }
+{
     let mut instrs = Vec::new(alloc);
     instrs.extend_from_slice(body)?;
     instrs.extend_from_slice(&BEHIND)?;
