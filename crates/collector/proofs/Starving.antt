@@ -12,7 +12,7 @@ use Rattle.flow_core_laws.proofs.Elements.{element_kept}
 use Rattle.flow_core_laws.proofs.There.{there_by_ends, end_of}
 use Rattle.flow_core_laws.specs.declared.elem.Elem.TheVariants.{Value}
 use Rattle.flow_core_laws.specs.Element as elements
-use Rattle.flow_core_laws.specs.Element.{given, fed, nobody, output_element, output_at}
+use Rattle.flow_core_laws.specs.Element.{initial, fed, nobody, output_element, output_at}
 use Rattle.flow_core_laws.specs.Poisoning.{poisoning}
 use Rattle.flow_core_laws.specs.Laws.{IsFilled}
 use Rattle.flow_core_laws.specs.Outcome.{outcome_at, State, ends_of, is_done, has_end_at, root_of}
@@ -92,7 +92,7 @@ module _ (activations : List Activation) (input : List ℕ) (body : ℕ → List
   poison_says : (place : Place) → is_poison (stream_element state (stream_source activations input place)) ≡ is_poisoned activations ends place
   poison_says place = by_stream (place.stream == 0)
     where
-      by_byte : (o : Option ℕ) → is_poison (stream_element state (option_map_or (λ byte. given (Value (pos byte))) o nobody)) ≡ false
+      by_byte : (o : Option ℕ) → is_poison (stream_element state (option_map_or (λ byte. initial (Value (pos byte))) o nobody)) ≡ false
       by_byte None = refl
       by_byte (Some byte) = refl
 

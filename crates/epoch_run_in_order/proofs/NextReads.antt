@@ -11,7 +11,7 @@ use mathlib.Core.List.{map-map}
 use Rattle.flow_core_laws.specs.declared.activation.Activation.{Activation}
 use Rattle.flow_core_laws.specs.declared.elem.Elem.{Elem}
 use Rattle.flow_core_laws.specs.declared.elem.Elem.TheVariants.{Value}
-use Rattle.flow_core_laws.specs.Element.{given, nobody}
+use Rattle.flow_core_laws.specs.Element.{initial, nobody}
 use Rattle.flow_core_laws.specs.Outcome.{State}
 use Rattle.flow_core_laws.specs.Place.{Place, input_places, places_of, written_count}
 use Rattle.flow_core_laws.specs.Poisoning.{values_of}
@@ -92,7 +92,7 @@ module _ (streams : Streams) (before : List Activation) (input : List ℕ) (stat
   held_is_there : (p : Place) (e : Elem) → held_in streams input p ≡ Some e → here p ≡ Some e
   held_is_there p e = by_stream (p.stream == 0) refl
     where
-      by_byte : (o : Option ℕ) → option_map (λ byte. Value (pos byte)) o ≡ Some e → stream_element state (option_map_or (λ byte. given (Value (pos byte))) o nobody) ≡ Some e
+      by_byte : (o : Option ℕ) → option_map (λ byte. Value (pos byte)) o ≡ Some e → stream_element state (option_map_or (λ byte. initial (Value (pos byte))) o nobody) ≡ Some e
       by_byte None h = absurd (cc)
       by_byte (Some byte) h = h
 

@@ -17,7 +17,7 @@ use Rattle.flow_core_laws.proofs.OneMore.{length-values}
 use Rattle.flow_core_laws.proofs.Rounds.{length-meaning, outcome_at-meaning}
 use Rattle.flow_core_laws.proofs.Stretches.{slice_get-append_left}
 use Rattle.flow_core_laws.proofs.There.{there_by_ends}
-use Rattle.flow_core_laws.specs.Element.{fed, given, nobody}
+use Rattle.flow_core_laws.specs.Element.{fed, initial, nobody}
 use Rattle.flow_core_laws.specs.Laws.{IsFilled}
 use Rattle.flow_core_laws.specs.Outcome.{State, ends_of, has_end_at, outcome_at, outcome_of}
 use Rattle.flow_core_laws.specs.Place.{Place, input_places}
@@ -98,7 +98,7 @@ module _ (before new : List Activation) (input : List ℕ) (body : ℕ → List 
       → CannotCome (ends_of (stream_meaning before input body)) [] (stream_source (before ++ new) input p)
   comes_not p none = by_stream (p.stream == 0) (sym (there_by_ends before input earlier p filled) ∙ ap is_some none)
     where
-      by_byte : (o : Option ℕ) → nat_lt p.position (length input) ≡ false → slice_get input p.position ≡ o → CannotCome ends [] (option_map_or (λ byte. given (Value (pos byte))) o nobody)
+      by_byte : (o : Option ℕ) → nat_lt p.position (length input) ≡ false → slice_get input p.position ≡ o → CannotCome ends [] (option_map_or (λ byte. initial (Value (pos byte))) o nobody)
       by_byte None past e = unwritten
       by_byte (Some byte) past e = absurd (let ge = ltb-false p.position (length input) past in omega (arith, slice_get_within input p.position byte e))
 

@@ -16,7 +16,7 @@ use Rattle.flow_core_epochs.specs.Epoch as epoch
 use Rattle.flow_core_epochs.specs.Epoch.{LeaveOutWaiting, number_in, open_in, left_out, unwritten}
 use Rattle.flow_core_laws.proofs.Windows.{producer_of}
 use Rattle.flow_core_laws.specs.declared.elem.Elem.TheVariants.{Value}
-use Rattle.flow_core_laws.specs.Element.{fed, given, nobody}
+use Rattle.flow_core_laws.specs.Element.{fed, initial, nobody}
 use Rattle.flow_core_laws.specs.FirstPosition.{write_cursor}
 use Rattle.flow_core_laws.specs.Outcome.{outcome_at}
 use Rattle.flow_core_laws.specs.Place.{Place, input_places, places_of}
@@ -123,7 +123,7 @@ module _ (layout : Layout) (activations : List Activation) (of : IsLayoutOf layo
   of_input : (position : ℕ) → layout.input_len ≤ position → input_source input position ≡ nobody
   of_input position le = by_byte (slice_get input position) refl
     where
-      by_byte : (o : Option ℕ) → slice_get input position ≡ o → option_map_or (λ byte. given (Value (pos byte))) o nobody ≡ nobody
+      by_byte : (o : Option ℕ) → slice_get input position ≡ o → option_map_or (λ byte. initial (Value (pos byte))) o nobody ≡ nobody
       by_byte None e = refl
       by_byte (Some byte) e = absurd (omega (arith, over, slice_get_within input position byte e))
 

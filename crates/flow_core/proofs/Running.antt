@@ -16,7 +16,7 @@ use Rattle.flow_core_laws.specs.declared.task_end.TaskEnd.{TaskEnd}
 use Rattle.flow_core.specs.declared.waits.Waits.{Waits}
 use Rattle.flow_core_laws.specs.declared.outcome.Outcome.{Outcome}
 use Rattle.flow_core_laws.specs.Outcome.{outcome_at, State, ends_of}
-use Rattle.flow_core_laws.specs.Element.{Source, given, fed, nobody, written, output_at}
+use Rattle.flow_core_laws.specs.Element.{Source, initial, fed, nobody, written, output_at}
 use Rattle.flow_core_laws.specs.Poisoning.{poisoning}
 use Rattle.flow_core_laws.specs.Round.{gathered}
 use Rattle.flow_core_laws.specs.Plans.{frame_at, number_at, cells_of, held_at, cell_source, piece_at, plan_reads, plan_element, plan_meaning, sink_elements}
@@ -42,7 +42,7 @@ shown_at_opening : (plan : Plan) (m : State) (c : ℕ) → held_at plan.filled c
 unfolding cell_source
 shown_at_opening plan m c = by_value (held_at plan.filled c) (option_and_then (λ number. slice_get plan.pieces number) (piece_at plan c))
   where
-    by_value : (o : Option Elem) (f : Option Piece) → o ≡ shown (number_at plan) (map (λ (p : FramePlan). None) plan.frames) m (option_map_or given o (option_map_or (λ (p : Piece). fed p.from (p.first + (c - p.at))) f nobody))
+    by_value : (o : Option Elem) (f : Option Piece) → o ≡ shown (number_at plan) (map (λ (p : FramePlan). None) plan.frames) m (option_map_or initial o (option_map_or (λ (p : Piece). fed p.from (p.first + (c - p.at))) f nobody))
     by_value (Some v) f = refl
     by_value None None = refl
     by_value None (Some p) = sym (ap (λ (e : Option TaskEnd). cond (is_some e) (output_at (number_at plan) m p.from (p.first + (c - p.at))) None) (no_end plan.frames p.from))
@@ -136,7 +136,7 @@ reaches plan outcome board turn sound run over = record { passes = λ s extends 
     m = plan_meaning plan outcome
 
     shown_too : (s : State) → Extends s m → ((b : ℕ) (o : Outcome) → outcome_at s b ≡ Some o → is_some (end_at board.ends.items b) ≡ true) → (source : Source) (v : Elem) → plan_element plan s source ≡ Some v → shown (number_at plan) board.ends.items m source ≡ Some v
-    shown_too s extends earlier (given w) v h = h
+    shown_too s extends earlier (initial w) v h = h
     shown_too s extends earlier (fed b k) v h = option_and_then_some (λ (o : Outcome). written (number_at plan b) o k) (outcome_at s b) v h (λ o is at. ap (λ (t : Bool). cond t (output_at (number_at plan) m b k) None) (earlier b o is) ∙ element_kept (number_at plan) s m extends.kept (fed b k) v h)
     shown_too s extends earlier nobody v h = absurd (cc)
 
@@ -194,7 +194,7 @@ sink_meant plan m cells ends waits sound counted shows all =
     shown_fed g k (Some e) is = ap (λ (e : Option TaskEnd). cond (is_some e) (output_at (number_at plan) m g k) None) is
 
     shown_all : (source : Source) → shown (number_at plan) ends m source ≡ plan_element plan m source
-    shown_all (given v) = refl
+    shown_all (initial v) = refl
     shown_all (fed g k) = shown_fed g k (end_at ends g) refl
     shown_all nobody = refl
 

@@ -15,7 +15,7 @@ use Rattle.flow_core_laws.specs.declared.task_end.TaskEnd.TheVariants.{Done, Tra
 use Rattle.flow_core.specs.declared.waits.Waits.{Waits}
 use Rattle.flow_core_laws.specs.declared.outcome.Outcome.{Outcome}
 use Rattle.flow_core_laws.specs.Outcome.{outcome_at, State, root_of}
-use Rattle.flow_core_laws.specs.Element.{Source, given, fed, nobody, element, output_element, written, output_at}
+use Rattle.flow_core_laws.specs.Element.{Source, initial, fed, nobody, element, output_element, written, output_at}
 use Rattle.flow_core_laws.specs.Round.{gathered}
 use Rattle.flow_core_laws.specs.Poisoning.{poisoning, values_of}
 use Rattle.flow_core_laws.specs.Plans.{frame_at, number_at, cells_of, held_at, cell_source, plan_reads, plan_element, plan_meaning}
@@ -109,7 +109,7 @@ Shows-ended plan m cells new ends f e root outputs sound f_lt shows (o, is, o_en
     at_fed c g k h s (inr other) = stays c h (λ j s'. other (let q : fed g k ≡ fed f j = sym s ∙ s' in cc)) ∙ ap (shown (number_at plan) ends m) s ∙ sym (shown-other (number_at plan) ends m f g k e other)
 
     at_source : (c : ℕ) → c < length new → (source : Source) → cell_source plan c ≡ source → held_at new c ≡ shown (number_at plan) (set ends f (Some e)) m (cell_source plan c)
-    at_source c h (given v) s = stays c h (λ j s'. cc) ∙ ap (shown (number_at plan) ends m) s ∙ ap (shown (number_at plan) (set ends f (Some e)) m) (sym s)
+    at_source c h (initial v) s = stays c h (λ j s'. cc) ∙ ap (shown (number_at plan) ends m) s ∙ ap (shown (number_at plan) (set ends f (Some e)) m) (sym s)
     at_source c h (fed g k) s = at_fed c g k h s (cases_eq g f) ∙ ap (shown (number_at plan) (set ends f (Some e)) m) (sym s)
     at_source c h nobody s = stays c h (λ j s'. cc) ∙ ap (shown (number_at plan) ends m) s ∙ ap (shown (number_at plan) (set ends f (Some e)) m) (sym s)
 
@@ -119,7 +119,7 @@ shown_if true o v h = h
 shown_if false o v h = absurd (cc)
 
 pub shown_meant : (numbers : ℕ → ℕ) (ends : List (Option TaskEnd)) (m : State) (source : Source) (v : Elem) → shown numbers ends m source ≡ Some v → element numbers m source ≡ Some v
-shown_meant numbers ends m (given w) v h = h
+shown_meant numbers ends m (initial w) v h = h
 shown_meant numbers ends m (fed g k) v h = shown_if (is_some (end_at ends g)) (output_at numbers m g k) v h
 shown_meant numbers ends m nobody v h = absurd (cc)
 

@@ -7,7 +7,7 @@ use Rattle.flow_core_laws.specs.declared.plan.Plan.{Plan}
 use Rattle.flow_core_laws.specs.declared.task_end.TaskEnd.{TaskEnd}
 use Rattle.flow_core_laws.specs.declared.task_end.TaskEnd.TheVariants.{Done}
 use Rattle.flow_core_laws.specs.declared.outcome.Outcome.{Outcome}
-use Rattle.flow_core_laws.specs.Element.{Source, given, fed, nobody, output_at}
+use Rattle.flow_core_laws.specs.Element.{Source, initial, fed, nobody, output_at}
 use Rattle.flow_core_laws.specs.Plans.{number_at, held_at, cell_source, plan_element, plan_reads}
 use Rattle.flow_core_laws.specs.Poisoning.{values_of}
 use Rattle.flow_core_laws.specs.Round.{gathered}
@@ -16,9 +16,9 @@ use Rattle.flow_core_laws.specs.Round.{gathered}
 abbrev pub end_at : List (Option TaskEnd) → ℕ → Option TaskEnd
 end_at ends frame = slice_index_or ends frame None
 
--- The element of a source that a run shows: a given one, or one of a frame that has an end.
+-- The element of a source that a run shows: an initial one, or one of a frame that has an end.
 abbrev pub shown : (ℕ → ℕ) → List (Option TaskEnd) → State → Source → Option Elem
-shown number_of ends meaning (given elem) = Some elem
+shown number_of ends meaning (initial elem) = Some elem
 shown number_of ends meaning (fed frame place) = if is_some (end_at ends frame) then output_at number_of meaning frame place else None
 shown number_of ends meaning nobody = None
 

@@ -16,7 +16,7 @@ use Rattle.flow_core_concurrent.specs.Counted.{one, is_run_of, is_past, counted_
 use Rattle.flow_core_concurrent.proofs.Words.{one_is_false, full_waits}
 use Rattle.flow_core_laws.specs.declared.outcome.Outcome.{Outcome}
 use Rattle.flow_core_laws.specs.declared.plan.Plan.{Plan}
-use Rattle.flow_core_laws.specs.Element.{Source, given, fed, nobody, output_at, written}
+use Rattle.flow_core_laws.specs.Element.{Source, initial, fed, nobody, output_at, written}
 use Rattle.flow_core_laws.specs.Plans.{plan_element, frame_at, held_at, piece_at, piece_source, cell_source, plan_reads, plan_meaning, number_at}
 use Rattle.flow_core_laws.specs.IsSound.{IsSound}
 use Rattle.flow_core_laws.proofs.Sources.{fed-covered, piece_at-covered}
@@ -56,22 +56,22 @@ turn looks n f lt le =
     let j : ℕ = m % n + 1 in
     (j, omega arith, omega (arith, a), omega (arith, b), (let e : looks - j ≡ k + f = omega (arith, a, lt, le) in ap (λ x. x % n) e ∙ mod-mul-add (m / n) n f lt))
 
--- a cell that held something at opening is given
-pub source_given : (plan : Plan) (c : ℕ) (x : Elem) → cell_source plan c ≡ given x → held_at plan.filled c ≡ Some x
+-- a cell that held something at opening is initial
+pub source_initial : (plan : Plan) (c : ℕ) (x : Elem) → cell_source plan c ≡ initial x → held_at plan.filled c ≡ Some x
 unfolding cell_source
-source_given plan c x h = by (held_at plan.filled c) refl h
+source_initial plan c x h = by (held_at plan.filled c) refl h
   where
-    unfed : (n : Option ℕ) → option_map_or (λ (p : Piece). fed p.from (p.first + (c - p.at))) (option_and_then (λ number. slice_get plan.pieces number) n) nobody ≡ given x → ⊥
+    unfed : (n : Option ℕ) → option_map_or (λ (p : Piece). fed p.from (p.first + (c - p.at))) (option_and_then (λ number. slice_get plan.pieces number) n) nobody ≡ initial x → ⊥
     unfed None e = cc
     unfed (Some n) e = in_pieces (slice_get plan.pieces n) e
       where
-        in_pieces : (o : Option Piece) → option_map_or (λ (p : Piece). fed p.from (p.first + (c - p.at))) o nobody ≡ given x → ⊥
+        in_pieces : (o : Option Piece) → option_map_or (λ (p : Piece). fed p.from (p.first + (c - p.at))) o nobody ≡ initial x → ⊥
         in_pieces None e = cc
         in_pieces (Some p) e = cc
 
-    by : (o : Option Elem) → held_at plan.filled c ≡ o → option_map_or given o (piece_source plan c) ≡ given x → held_at plan.filled c ≡ Some x
+    by : (o : Option Elem) → held_at plan.filled c ≡ o → option_map_or initial o (piece_source plan c) ≡ initial x → held_at plan.filled c ≡ Some x
     by None e h = absurd (unfed (piece_at plan c) h)
-    by (Some y) e h = e ∙ ap Some (let z : given y ≡ given x = h in let w : y ≡ x = cc in w)
+    by (Some y) e h = e ∙ ap Some (let z : initial y ≡ initial x = h in let w : y ≡ x = cc in w)
 
 -- an output element is there only of a frame that has an outcome
 output_has_outcome : (plan : Plan) (t : State) (f k : ℕ) (x : Elem) → output_at (number_at plan) t f k ≡ Some x → (o : Outcome) × (outcome_at t f ≡ Some o)
@@ -81,13 +81,13 @@ output_has_outcome plan t f k x h = by (outcome_at t f) refl
     by None e = let z : ◌≡◌ {A = Option Elem} None (Some x) = sym (ap (option_and_then (λ (o : Outcome). written (number_at plan f) o k)) e) ∙ h in absurd (cc)
     by (Some o) e = (o, e)
 
--- Where the frames with an outcome in a state have ended, the elements that are there in it were given at
+-- Where the frames with an outcome in a state have ended, the elements that are there in it were initial at
 -- opening or came with a piece that counts.
 pub there_counts : (known : Known) (s : CoreState) (t : State) (c : ℕ) (x : Elem) → IsSound known.plan → IsGood known s → ((f : ℕ) (o : Outcome) → outcome_at t f ≡ Some o → has_ended (word_at s.words f) ≡ true) → plan_element known.plan t (cell_source known.plan c) ≡ Some x → 1 ≤ one (is_some (held_at known.plan.filled c)) + counted_at known.plan s.words (runs_of s) c
 there_counts known s t c x sound g ended h = by (cell_source known.plan c) refl h
   where
     by : (source : Source) → cell_source known.plan c ≡ source → plan_element known.plan t source ≡ Some x → 1 ≤ one (is_some (held_at known.plan.filled c)) + counted_at known.plan s.words (runs_of s) c
-    by (given y) e h = let a : one (is_some (held_at known.plan.filled c)) ≡ 1 = ap (λ o. one (is_some o)) (source_given known.plan c y e) in omega (arith, a)
+    by (initial y) e h = let a : one (is_some (held_at known.plan.filled c)) ≡ 1 = ap (λ o. one (is_some o)) (source_initial known.plan c y e) in omega (arith, a)
     by nobody e h = absurd (cc)
     by (fed f k) e h =
         let (o, there) = output_has_outcome known.plan t f k x h in

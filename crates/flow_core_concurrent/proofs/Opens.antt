@@ -11,7 +11,7 @@ use Rattle.flow_core_concurrent.proofs.Sums.{count_by-same, each_push}
 use Rattle.flow_core_laws.specs.declared.plan.Plan.{Plan}
 use Rattle.flow_core_laws.specs.declared.task_end.TaskEnd.{TaskEnd}
 use Rattle.flow_core_laws.specs.Plans.{plan_element, frame_at, held_at, cells_of, missing_of, piece_at, piece_source, cell_source}
-use Rattle.flow_core_laws.specs.Element.{given}
+use Rattle.flow_core_laws.specs.Element.{initial}
 use Rattle.flow_core_laws.specs.IsSound.{IsSound}
 use Rattle.flow_core_laws.specs.declared.elem.Elem.{Elem}
 use Rattle.flow_core_concurrent.specs.declared.known.Known.{Known}
@@ -68,9 +68,9 @@ none_stored : (plan : Plan) (c : ℕ) → underway_at plan (None ∷ []) c ≡ 0
 none_stored plan c = map_or-zero (underway plan (None ∷ []) c) (piece_at plan c) (λ q. map_or-zero (λ (p : Piece). count_by (has_stored p.from q (c - p.at)) (None ∷ [])) (slice_get plan.pieces q) (λ p. refl))
 
 -- what is filled holds what it was given
-given_holds : (known : Known) (c : ℕ) (value : Elem) → held_at known.plan.filled c ≡ Some value → plan_element known.plan known.meaning (cell_source known.plan c) ≡ Some value
+initial_holds : (known : Known) (c : ℕ) (value : Elem) → held_at known.plan.filled c ≡ Some value → plan_element known.plan known.meaning (cell_source known.plan c) ≡ Some value
 unfolding cell_source
-given_holds known c value h = ap (λ (o : Option Elem). plan_element known.plan known.meaning (option_map_or given o (piece_source known.plan c))) h
+initial_holds known c value h = ap (λ (o : Option Elem). plan_element known.plan known.meaning (option_map_or initial o (piece_source known.plan c))) h
 
 pub opens_good : (known : Known) → IsSound known.plan → IsGood known (opening known)
 opens_good known sound = good_from known (opening known) flows (each_push (Sits known (opening_words known.plan)) [] (fresh known known.seats) (fresh_sits known (opening_words known.plan) known.seats) (λ j u h. absurd (cc))) books
@@ -86,7 +86,7 @@ opens_good known sound = good_from known (opening known) flows (each_push (Sits 
     flows = record {
       words_of_plan = opening_length plan;
       cells_of_plan = refl;
-      hold = given_holds known;
+      hold = initial_holds known;
       filled = λ c. let a = none_counted plan c in let b = none_stored plan c in omega (arith, a, b);
       count = λ f le.
           let a : amount (word_at (opening_words plan) f) ≡ (frame_at plan f).wait = ap amount (opening_at plan f le) ∙ opening_amount (frame_at plan f) in

@@ -20,7 +20,7 @@ use Rattle.flow_core_concurrent.specs.Counted.{one, is_run_of, is_past, has_stor
 use Rattle.flow_core_concurrent.proofs.Opening.{count_by-fewer}
 use Rattle.flow_core_laws.specs.declared.outcome.Outcome.{Outcome}
 use Rattle.flow_core_laws.specs.declared.task_end.TaskEnd.{TaskEnd}
-use Rattle.flow_core_laws.specs.Element.{Source, given, fed, nobody, output_at, written}
+use Rattle.flow_core_laws.specs.Element.{Source, initial, fed, nobody, output_at, written}
 use Rattle.flow_core_laws.specs.Plans.{plan_element, frame_at, held_at, cell_source, cells_of, plan_reads, plan_meaning, number_at}
 use Rattle.flow_core_laws.specs.IsSound.{HasCell}
 use Rattle.flow_core_laws.proofs.Elements.{element_kept}
@@ -154,7 +154,7 @@ claimed_element : (known : Known) (s : CoreState) (c : ℕ) (x : Elem) → IsFit
 claimed_element known s c x fit g some h = by (cell_source known.plan c) refl h
   where
     by : (source : Source) → cell_source known.plan c ≡ source → plan_element known.plan known.meaning source ≡ Some x → plan_element known.plan (claimed_outcomes known s) source ≡ Some x
-    by (given y) e h = h
+    by (initial y) e h = h
     by nobody e h = h
     by (fed f k) e h =
         let (q, p, number, low, high, from, _) = fed-covered known.plan c f k e in
@@ -190,7 +190,7 @@ module _ (known : Known) (outcome : ℕ → List ℤ → Outcome) (s : CoreState
 
   -- what is there of the claimed frames is the meaning's
   meant_element : (source : Source) (x : Elem) → plan_element known.plan (claimed_outcomes known s) source ≡ Some x → plan_element known.plan known.meaning source ≡ Some x
-  meant_element (given y) x h = h
+  meant_element (initial y) x h = h
   meant_element nobody x h = h
   meant_element (fed a k) x h = by (outcome_at (claimed_outcomes known s) a) refl
     where

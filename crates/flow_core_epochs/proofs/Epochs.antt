@@ -13,7 +13,7 @@ use Rattle.flow_core_laws.specs.declared.plan.Plan.{Plan}
 use Rattle.flow_core_laws.specs.declared.outcome.Outcome.{Outcome}
 use Rattle.flow_core_laws.specs.Outcome.{outcome_at, State}
 use Rattle.flow_core_laws.specs.declared.elem.Elem.TheVariants.{Value}
-use Rattle.flow_core_laws.specs.Element.{Source, given, fed, nobody, written, output_at}
+use Rattle.flow_core_laws.specs.Element.{Source, initial, fed, nobody, written, output_at}
 use Rattle.flow_core_laws.specs.Poisoning.{poisoning}
 use Rattle.flow_core_laws.specs.Place.{Place, input_places}
 use Rattle.flow_core_laws.specs.Streams.{input_source, produced_source, stream_source, stream_reads, stream_meaning, stream_element, own_number}
@@ -48,7 +48,7 @@ output_outcome numbers s a place v h = by_outcome (outcome_at s a) refl
 pub fed_stream : (activations : List Activation) (input : List ℕ) (p : Place) (a place : ℕ) → stream_source activations input p ≡ fed a place → p.stream ≢ 0
 fed_stream activations input p a place h zero_stream = by_byte (slice_get input p.position) (ap (λ (b : Bool). cond b (input_source input p.position) (produced_source activations p.stream p.position)) (sym (ap (λ (n : ℕ). n == 0) zero_stream)) ∙ h)
   where
-    by_byte : (o : Option ℕ) → option_map_or (λ byte. given (Value (pos byte))) o nobody ≡ fed a place → ⊥
+    by_byte : (o : Option ℕ) → option_map_or (λ byte. initial (Value (pos byte))) o nobody ≡ fed a place → ⊥
     by_byte None e = absurd (cc)
     by_byte (Some x) e = absurd (cc)
 
@@ -118,9 +118,9 @@ module _ (before new : List Activation) (input : List ℕ) (body : ℕ → List 
       by_number a place None e h = absurd (cc)
       by_number a place (Some f) e h = output_carries (number_at plan) own_number s whole f a place v (number_is epoch f a (numbers_back frames a f e)) (λ o is. ap (outcome_at whole) (sym (get_or_from_slice_get frames f a 0 (numbers_back frames a f e))) ∙ carries f o is) h
 
-      by_kept : (k : Option Elem) → value_kept kept p ≡ k → (source : Source) → stream_source acts input p ≡ source → plan_element plan s (option_map_or given k (among frames (stream_source acts input p))) ≡ Some v → stream_element whole (stream_source acts input p) ≡ Some v
+      by_kept : (k : Option Elem) → value_kept kept p ≡ k → (source : Source) → stream_source acts input p ≡ source → plan_element plan s (option_map_or initial k (among frames (stream_source acts input p))) ≡ Some v → stream_element whole (stream_source acts input p) ≡ Some v
       by_kept (Some w) k_is source is h = element_kept own_number earlier whole earlier_extends.kept (stream_source acts input p) v ((kept_value acts input earlier frames kept p w epoch.kept_well k_is).1 ∙ h)
-      by_kept None k_is (given w) is h = ap (stream_element whole) is ∙ sym (ap (λ (x : Source). plan_element plan s (among frames x)) is) ∙ h
+      by_kept None k_is (initial w) is h = ap (stream_element whole) is ∙ sym (ap (λ (x : Source). plan_element plan s (among frames x)) is) ∙ h
       by_kept None k_is nobody is h = let z : plan_element plan s (among frames (stream_source acts input p)) ≡ None = ap (λ (x : Source). plan_element plan s (among frames x)) is in absurd (cc)
       by_kept None k_is (fed a place) is h = ap (stream_element whole) is ∙ by_number a place (number_in frames a) refl (sym (ap (λ (x : Source). plan_element plan s (among frames x)) is) ∙ h)
 
@@ -150,9 +150,9 @@ module _ (before new : List Activation) (input : List ℕ) (body : ℕ → List 
           let none : is_some (value_kept kept p) ≡ false = ap is_some k_is in
           absurd (cc)
 
-      by_kept : (k : Option Elem) → value_kept kept p ≡ k → (source : Source) → stream_source acts input p ≡ source → plan_element plan partial (option_map_or given k (among frames (stream_source acts input p))) ≡ Some v
+      by_kept : (k : Option Elem) → value_kept kept p ≡ k → (source : Source) → stream_source acts input p ≡ source → plan_element plan partial (option_map_or initial k (among frames (stream_source acts input p))) ≡ Some v
       by_kept (Some w) k_is source is = sym (element_kept own_number earlier whole earlier_extends.kept (stream_source acts input p) w (kept_value acts input earlier frames kept p w epoch.kept_well k_is).1) ∙ element_kept own_number s whole extends.kept (stream_source acts input p) v h
-      by_kept None k_is (given w) is = ap (λ (x : Source). plan_element plan partial (among frames x)) is ∙ sym (ap (stream_element s) is) ∙ h
+      by_kept None k_is (initial w) is = ap (λ (x : Source). plan_element plan partial (among frames x)) is ∙ sym (ap (stream_element s) is) ∙ h
       by_kept None k_is nobody is = let z : stream_element s (stream_source acts input p) ≡ None = ap (stream_element s) is in absurd (cc)
       by_kept None k_is (fed a place) is = ap (λ (x : Source). plan_element plan partial (among frames x)) is ∙ by_number a place (number_in frames a) refl k_is is
 

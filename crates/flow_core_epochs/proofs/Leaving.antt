@@ -10,7 +10,7 @@ use Rattle.flow_core_laws.specs.declared.plan.Plan.{Plan}
 use Rattle.flow_core_laws.specs.declared.outcome.Outcome.{Outcome}
 use Rattle.flow_core_laws.specs.Outcome.{outcome_at, State}
 use Rattle.flow_core_laws.specs.declared.elem.Elem.TheVariants.{Value}
-use Rattle.flow_core_laws.specs.Element.{Source, given, fed, nobody, written}
+use Rattle.flow_core_laws.specs.Element.{Source, initial, fed, nobody, written}
 use Rattle.flow_core_laws.specs.Place.{Place}
 use Rattle.flow_core_laws.specs.Streams.{input_source, produced_source, stream_source, stream_element, own_number}
 use Rattle.flow_core_laws.specs.Plans.{plan_reads, plan_element, sink_elements}
@@ -29,7 +29,7 @@ module _ (before new : List Activation) (input : List ℕ) (body : ℕ → List 
   -- an element that a frame feeds is the same in the epoch and in the run
   pub element_of_frame : HasEpoch before new input body readers frames kept plan places → (p : Place) (f a place : ℕ) → slice_get frames f ≡ Some a → stream_source (before ++ new) input p ≡ fed a place → plan_element plan (partial before new input body readers frames kept plan places) (epoch_source (before ++ new) input frames kept p) ≡ stream_element (whole before new input body readers frames kept plan places) (stream_source (before ++ new) input p)
   element_of_frame epoch p f a place at is =
-      ap (λ (k : Option Elem). plan_element plan m (option_map_or given k (among frames (stream_source (before ++ new) input p)))) (not_kept (value_kept kept p) refl)
+      ap (λ (k : Option Elem). plan_element plan m (option_map_or initial k (among frames (stream_source (before ++ new) input p)))) (not_kept (value_kept kept p) refl)
       ∙ ap (λ (x : Source). plan_element plan m (among frames x)) is
       ∙ ap (λ (n : Option ℕ). plan_element plan m (option_map_or (λ g. fed g place) n nobody)) (epoch.are_open.numbered f a at)
       ∙ ap (λ (n : ℕ). option_and_then (λ (q : Outcome). written n q place) (outcome_at m f)) (number_is before new input body readers frames kept plan places epoch f a at)
@@ -56,7 +56,7 @@ module _ (before new : List Activation) (input : List ℕ) (body : ℕ → List 
   -- an element of the input too
   pub element_of_input : HasEpoch before new input body readers frames kept plan places → (p : Place) → p.stream ≡ 0 → plan_element plan (partial before new input body readers frames kept plan places) (epoch_source (before ++ new) input frames kept p) ≡ stream_element (whole before new input body readers frames kept plan places) (stream_source (before ++ new) input p)
   element_of_input epoch p zero_stream =
-      ap (λ (k : Option Elem). plan_element plan m (option_map_or given k (among frames (stream_source (before ++ new) input p)))) (not_kept (value_kept kept p) refl)
+      ap (λ (k : Option Elem). plan_element plan m (option_map_or initial k (among frames (stream_source (before ++ new) input p)))) (not_kept (value_kept kept p) refl)
       ∙ ap (λ (x : Source). plan_element plan m (among frames x)) is
       ∙ by_byte (slice_get input p.position)
       ∙ sym (ap (stream_element all) is)
@@ -70,7 +70,7 @@ module _ (before new : List Activation) (input : List ℕ) (body : ℕ → List 
       is : stream_source (before ++ new) input p ≡ input_source input p.position
       is = ap (λ (b : Bool). cond b (input_source input p.position) (produced_source (before ++ new) p.stream p.position)) (ap (λ (n : ℕ). n == 0) zero_stream)
 
-      by_byte : (o : Option ℕ) → plan_element plan m (among frames (option_map_or (λ byte. given (Value (pos byte))) o nobody)) ≡ stream_element all (option_map_or (λ byte. given (Value (pos byte))) o nobody)
+      by_byte : (o : Option ℕ) → plan_element plan m (among frames (option_map_or (λ byte. initial (Value (pos byte))) o nobody)) ≡ stream_element all (option_map_or (λ byte. initial (Value (pos byte))) o nobody)
       by_byte None = refl
       by_byte (Some x) = refl
 

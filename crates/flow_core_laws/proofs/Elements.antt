@@ -9,14 +9,14 @@ use Rattle.flow_core_laws.specs.Laws.{IsKept}
 use Rattle.flow_core_laws.specs.declared.elem.Elem.{Elem}
 use Rattle.flow_core_laws.specs.declared.outcome.Outcome.{Outcome}
 use Rattle.flow_core_laws.specs.declared.plan.Plan.{Plan}
-use Rattle.flow_core_laws.specs.Element.{given, fed, nobody, written, element}
+use Rattle.flow_core_laws.specs.Element.{initial, fed, nobody, written, element}
 use Rattle.flow_core_laws.specs.Streams.{own_number}
 use Rattle.flow_core_laws.specs.Plans.{number_at}
 use Rattle.flow_core_laws.specs.StandsFor.{StandsFor}
 
 -- an element that is there stays as more activations get outcomes
 pub element_kept : (number_of : ℕ → ℕ) → IsKept (element number_of)
-element_kept number_of s t e (given w) v h = h
+element_kept number_of s t e (initial w) v h = h
 element_kept number_of s t e (fed a k) v h = output_more (outcome_at s a) refl
   where
     output_more : (o : Option Outcome) → outcome_at s a ≡ o → option_and_then (λ (q : Outcome). written (number_of a) q k) (outcome_at t a) ≡ Some v

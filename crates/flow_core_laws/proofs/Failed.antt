@@ -15,7 +15,7 @@ use Rattle.flow_core_laws.specs.declared.elem.Elem.TheVariants.{Value, Poison}
 use Rattle.flow_core_laws.specs.declared.task_end.TaskEnd.{TaskEnd}
 use Rattle.flow_core_laws.specs.declared.task_end.TaskEnd.TheVariants.{Done, Trapped, OverBudget, Poisoned}
 use Rattle.flow_core_laws.specs.declared.outcome.Outcome.{Outcome}
-use Rattle.flow_core_laws.specs.Element.{given, fed, nobody, output_element, written}
+use Rattle.flow_core_laws.specs.Element.{initial, fed, nobody, output_element, written}
 use Rattle.flow_core_laws.specs.Poisoning.{values_of, least_root, poisoning}
 use Rattle.flow_core_laws.specs.Streams.{input_source, produced_source, stream_source, stream_reads, own_number, stream_element, stream_meaning}
 use Rattle.flow_core_laws.specs.Laws.{NeverPoisons}
@@ -70,7 +70,7 @@ module _ (activations : List Activation) (input : List ℕ) (body : ℕ → List
   source_of_poison : (s : State) (p : Place) (r : ℕ) → stream_element s (stream_source activations input p) ≡ Some (Poison r) → (b : ℕ) × (o : Outcome) × (outcome_at s b ≡ Some o) × (root_of b o.end ≡ Some r)
   source_of_poison s p r = by_stream (p.stream == 0)
     where
-      by_byte : (o : Option ℕ) → stream_element s (option_map_or (λ byte. given (Value (pos byte))) o nobody) ≡ Some (Poison r) → (b : ℕ) × (o : Outcome) × (outcome_at s b ≡ Some o) × (root_of b o.end ≡ Some r)
+      by_byte : (o : Option ℕ) → stream_element s (option_map_or (λ byte. initial (Value (pos byte))) o nobody) ≡ Some (Poison r) → (b : ℕ) × (o : Outcome) × (outcome_at s b ≡ Some o) × (root_of b o.end ≡ Some r)
       by_byte None h = absurd (cc)
       by_byte (Some x) h = let z : Value (pos x) ≡ Poison r = same_Some (Value (pos x)) (Poison r) h in absurd (cc)
 

@@ -8,7 +8,7 @@ use Rattle.flow_core_laws.specs.declared.plan.Piece.{Piece}
 use Rattle.flow_core_laws.specs.Plans.{is_covered_by, held_at, piece_at, piece_source, cell_source}
 use Rattle.flow_core_laws.specs.declared.elem.Elem.{Elem}
 use Rattle.flow_core_laws.specs.declared.plan.Plan.{Plan}
-use Rattle.flow_core_laws.specs.Element.{Source, given, fed, nobody}
+use Rattle.flow_core_laws.specs.Element.{Source, initial, fed, nobody}
 use Rattle.flow_core_laws.specs.IsSound.{IsSound}
 use Rattle.std.specs.List.{position, position_or_len}
 use Rattle.std.proofs.lemmas.List.Sums.{position_or_len_is}
@@ -63,7 +63,7 @@ unfolding cell_source
 cell_source-covered plan number c p sound is low high =
     let empty : held_at plan.filled c ≡ None = sound.pieces_spare_the_filled number c (p, is, low, high) in
     let found = ap (option_and_then (λ n. slice_get plan.pieces n)) (piece_at-covered plan number c p sound is low high) ∙ is in
-    ap (λ (o : Option Elem). option_map_or given o (piece_source plan c)) empty ∙ ap (λ (o : Option Piece). option_map_or (λ (r : Piece). fed r.from (r.first + (c - r.at))) o nobody) found
+    ap (λ (o : Option Elem). option_map_or initial o (piece_source plan c)) empty ∙ ap (λ (o : Option Piece). option_map_or (λ (r : Piece). fed r.from (r.first + (c - r.at))) o nobody) found
 
 -- a cell that a frame feeds is covered by a piece of that frame
 pub fed-covered : (plan : Plan) (c frame place : ℕ) → cell_source plan c ≡ fed frame place → (number : ℕ) × (p : Piece) × (slice_get plan.pieces number ≡ Some p) × (p.at ≤ c) × (c < p.at + p.count) × (p.from ≡ frame) × (p.first + (c - p.at) ≡ place)
@@ -77,7 +77,7 @@ fed-covered plan c frame place h = by_number (held_at plan.filled c) (piece_at p
         let w = test_covers c p (ap (is_covered_by c) (sym (get_or_from_slice_get plan.pieces number p p is)) ∙ passes) in
         (number, p, is, w.0, w.1, cc, cc)
 
-    by_number : (o : Option Elem) (n : Option ℕ) → piece_at plan c ≡ n → option_map_or given o (option_map_or (λ (r : Piece). fed r.from (r.first + (c - r.at))) (option_and_then (λ number. slice_get plan.pieces number) n) nobody) ≡ fed frame place → (number : ℕ) × (p : Piece) × (slice_get plan.pieces number ≡ Some p) × (p.at ≤ c) × (c < p.at + p.count) × (p.from ≡ frame) × (p.first + (c - p.at) ≡ place)
+    by_number : (o : Option Elem) (n : Option ℕ) → piece_at plan c ≡ n → option_map_or initial o (option_map_or (λ (r : Piece). fed r.from (r.first + (c - r.at))) (option_and_then (λ number. slice_get plan.pieces number) n) nobody) ≡ fed frame place → (number : ℕ) × (p : Piece) × (slice_get plan.pieces number ≡ Some p) × (p.at ≤ c) × (c < p.at + p.count) × (p.from ≡ frame) × (p.first + (c - p.at) ≡ place)
     by_number (Some v) n e h = absurd (cc)
     by_number None None e h = absurd (cc)
     by_number None (Some number) e h = by_piece number (slice_get plan.pieces number) refl e h

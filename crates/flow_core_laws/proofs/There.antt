@@ -19,7 +19,7 @@ use Rattle.flow_core_laws.specs.declared.task_end.TaskEnd.{TaskEnd}
 use Rattle.flow_core_laws.specs.declared.task_end.TaskEnd.TheVariants.{Done, Trapped, OverBudget, Poisoned}
 use Rattle.flow_core_laws.specs.declared.outcome.Outcome.{Outcome}
 use Rattle.flow_core_laws.specs.Element as elements
-use Rattle.flow_core_laws.specs.Element.{given, fed, nobody, output_element, output_at}
+use Rattle.flow_core_laws.specs.Element.{initial, fed, nobody, output_element, output_at}
 use Rattle.flow_core_laws.specs.There.{is_there}
 use Rattle.flow_core_laws.specs.Laws.{IsFilled}
 use Rattle.std.proofs.Math.Path.{fun_ext}
@@ -98,8 +98,8 @@ output_there activations state a place x filled x_is lt = by_outcome (outcome_at
 -- an element of the input is there below the length
 input_there : (input : List ℕ) (state : State) (position : ℕ) → is_some (stream_element state (input_source input position)) ≡ nat_lt position (length input)
 input_there input state position = elim (cases_lt position (length input)) [
-  | inl lt ↦ ap (λ (o : Option ℕ). is_some (stream_element state (option_map_or (λ byte. given (Value (pos byte))) o nobody))) (slice_get-get_or input position 0 lt) ∙ sym (lt-ltb position (length input) lt)
-  | inr ge ↦ ap (λ (o : Option ℕ). is_some (stream_element state (option_map_or (λ byte. given (Value (pos byte))) o nobody))) (slice_get_past input position ge) ∙ (grind (arith, nat_tests))
+  | inl lt ↦ ap (λ (o : Option ℕ). is_some (stream_element state (option_map_or (λ byte. initial (Value (pos byte))) o nobody))) (slice_get-get_or input position 0 lt) ∙ sym (lt-ltb position (length input) lt)
+  | inr ge ↦ ap (λ (o : Option ℕ). is_some (stream_element state (option_map_or (λ byte. initial (Value (pos byte))) o nobody))) (slice_get_past input position ge) ∙ (grind (arith, nat_tests))
 ]
 
 pub there_by_ends : (activations : List Activation) (input : List ℕ) (state : State) (place : Place) → IsFilled activations state → is_some (stream_element state (stream_source activations input place)) ≡ is_there activations (length input) (ends_of state) place

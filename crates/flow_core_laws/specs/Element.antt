@@ -6,9 +6,9 @@ use Rattle.flow_core_laws.specs.declared.elem.Elem.{Elem}
 use Rattle.flow_core_laws.specs.declared.elem.Elem.TheVariants.{Value, Poison}
 use Rattle.flow_core_laws.specs.declared.outcome.Outcome.{Outcome}
 
--- An element is given from the start, is fed by an output element of an activation, or comes from nobody.
+-- An element is initial, there from the start, is fed by an output element of an activation, or comes from nobody.
 pub data Source : Type 0 where
-  given : Elem → Source
+  initial : Elem → Source
   fed : ℕ → ℕ → Source
   nobody : Source
 
@@ -30,6 +30,6 @@ output_at number_of state activation place = option_and_then (λ (o : Outcome). 
 
 -- The element of a source in a state, if it is there.
 abbrev pub element : (ℕ → ℕ) → State → Source → Option Elem
-element number_of state (given elem) = Some elem
+element number_of state (initial elem) = Some elem
 element number_of state (fed activation place) = output_at number_of state activation place
 element number_of state nobody = None

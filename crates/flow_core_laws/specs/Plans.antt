@@ -10,7 +10,7 @@ use Rattle.flow_core_laws.specs.declared.elem.Elem.{Elem}
 use Rattle.flow_core_laws.specs.declared.plan.Plan.{Plan}
 use Rattle.flow_core_laws.specs.declared.outcome.Outcome.{Outcome}
 use Rattle.flow_core_laws.specs.Outcome.{State}
-use Rattle.flow_core_laws.specs.Element.{Source, given, fed, nobody, element}
+use Rattle.flow_core_laws.specs.Element.{Source, initial, fed, nobody, element}
 use Rattle.flow_core_laws.specs.Poisoning.{poisoning}
 
 -- whether a piece covers a cell
@@ -48,7 +48,7 @@ piece_source plan cell =
 
 -- The source of a cell: what it holds at opening, or the piece that covers it.
 unfoldable pub cell_source : Plan → ℕ → Source
-cell_source plan cell = option_map_or given (held_at plan.filled cell) (piece_source plan cell)
+cell_source plan cell = option_map_or initial (held_at plan.filled cell) (piece_source plan cell)
 
 -- The sources of a frame's inputs, cell by cell.
 abbrev pub plan_reads : Plan → ℕ → List Source

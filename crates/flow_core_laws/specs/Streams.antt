@@ -10,7 +10,7 @@ use Rattle.flow_core_laws.specs.declared.elem.Elem.TheVariants.{Value}
 use Rattle.flow_core_laws.specs.declared.ends.Ends.{Ends}
 use Rattle.flow_core_laws.specs.declared.outcome.Outcome.{Outcome}
 use Rattle.flow_core_laws.specs.Outcome.{State, ends_of}
-use Rattle.flow_core_laws.specs.Element.{Source, given, fed, nobody, element}
+use Rattle.flow_core_laws.specs.Element.{Source, initial, fed, nobody, element}
 use Rattle.flow_core_laws.specs.Poisoning.{poisoning}
 use Rattle.flow_core_laws.specs.declared.claim.Claim.{Claim}
 
@@ -20,7 +20,7 @@ output_count activation = sum_by (λ (c : Claim). c.horizon) (filter (λ (c : Cl
 
 -- The source of an element of the input: its byte, where the position is below the length.
 abbrev pub input_source : List ℕ → ℕ → Source
-input_source input position = option_map_or (λ byte. given (Value (pos byte))) (slice_get input position) nobody
+input_source input position = option_map_or (λ byte. initial (Value (pos byte))) (slice_get input position) nobody
 
 -- The source of an element of another stream: the output element of its producer, if it has one.
 abbrev pub produced_source : List Activation → ℕ → ℕ → Source

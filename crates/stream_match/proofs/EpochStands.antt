@@ -15,7 +15,7 @@ use Rattle.flow_core_laws.specs.Streams.{output_count, input_source, produced_so
 use Rattle.flow_core_laws.proofs.Windows.{written, producer_by_number, claims_at-slice_get}
 use Rattle.flow_core_epochs.specs.Epoch.{number_in, read_from, Kept, value_kept, among, epoch_source, StandsForEpoch, written_places}
 use Rattle.flow_core_laws.specs.declared.plan.Plan.{Plan}
-use Rattle.flow_core_laws.specs.Element.{given, fed, nobody}
+use Rattle.flow_core_laws.specs.Element.{initial, fed, nobody}
 use Rattle.flow_core_laws.specs.Plans.{frame_at, cell_source, plan_reads}
 use Rattle.flow_core_laws.specs.declared.elem.Elem.{Elem}
 use Rattle.flow_core_laws.specs.declared.elem.Elem.TheVariants.{Value}
@@ -32,7 +32,7 @@ use Rattle.stream_match.specs.Weave.{Reach, reach_places, total, Weave, cells_of
 use Rattle.stream_match.specs.EpochPlan.{reaches_over, AreFrames, read_reach, leaves_from, staying, leaving_reach, leaving_reaches, opening_element, weave_over, WrittenOutside, epoch_opening, epoch_weave, IsEpochPlanOf}
 use Rattle.stream_match.proofs.EpochWeave.{over_frame, leaving_exist, leaving_fits, in_frames, reaches-frame, reaches-sink, stream_exists, produces, can_weave_over, span_stream}
 use Rattle.stream_match.proofs.Weaving.{length-frames, frame_at-frame}
-use Rattle.stream_match.proofs.WovenSources.{given_by, fed_by, nobody_by, woven_reads}
+use Rattle.stream_match.proofs.WovenSources.{initial_by, fed_by, nobody_by, woven_reads}
 use Rattle.std.proofs.lemmas.Bool.Decides.{nat_tests}
 use Rattle.std.proofs.lemmas.Grind.{flat_map-append}
 use Rattle.std.proofs.lemmas.List.Elements.{filter-append}
@@ -69,14 +69,14 @@ module _ (layout : Layout) (is : IsLayout layout) (activations : List Activation
       can : CanWeave layout (weave_over layout input frames kept sink)
       can = can_weave_over layout is activations of input frames kept sink exist fits are outside
 
-      gives : (v : Elem) → epoch_opening input kept stream at ≡ Some v → cell_source plan c ≡ given v
-      gives v e = given_by layout w can plan laid f i k v le lt kl e
+      gives : (v : Elem) → epoch_opening input kept stream at ≡ Some v → cell_source plan c ≡ initial v
+      gives v e = initial_by layout w can plan laid f i k v le lt kl e
 
       empty : epoch_opening input kept stream at ≡ None → ((place g : ℕ) → WritesAt layout w stream at place g → ⊥) → cell_source plan c ≡ nobody
       empty e free = nobody_by layout w can plan laid f i k le lt kl e free
 
       -- no byte of the input
-      of_input : (o : Option ℕ) → slice_get input at ≡ o → stream ≡ 0 → epoch_opening input kept stream at ≡ option_map (λ byte. Value (pos byte)) o → cell_source plan c ≡ among frames (option_map_or (λ byte. given (Value (pos byte))) o nobody)
+      of_input : (o : Option ℕ) → slice_get input at ≡ o → stream ≡ 0 → epoch_opening input kept stream at ≡ option_map (λ byte. Value (pos byte)) o → cell_source plan c ≡ among frames (option_map_or (λ byte. initial (Value (pos byte))) o nobody)
       of_input (Some byte) e zero_is v = gives (Value (pos byte)) v
       of_input None e zero_is v = empty v (λ place g writes. no_input_writer layout is stream exists place writes.within zero_is)
 
@@ -122,10 +122,10 @@ module _ (layout : Layout) (is : IsLayout layout) (activations : List Activation
       by_kept : (o : Option Elem) → value_kept kept (record { stream = stream; position = at }) ≡ o → cell_source plan c ≡ epoch_source activations input frames kept (record { stream = stream; position = at })
       by_kept (Some v) e =
           gives v (ap (λ o. option_map_or (λ x. Some x) o (opening_element input stream at)) e)
-          ∙ sym (ap (λ o. option_map_or given o (among frames (stream_source activations input (record { stream = stream; position = at })))) e)
+          ∙ sym (ap (λ o. option_map_or initial o (among frames (stream_source activations input (record { stream = stream; position = at })))) e)
       by_kept None e =
           by_stream (stream == 0) refl (ap (λ o. option_map_or (λ x. Some x) o (opening_element input stream at)) e)
-          ∙ sym (ap (λ o. option_map_or given o (among frames (stream_source activations input (record { stream = stream; position = at })))) e)
+          ∙ sym (ap (λ o. option_map_or initial o (among frames (stream_source activations input (record { stream = stream; position = at })))) e)
 
 -- ---- places
 

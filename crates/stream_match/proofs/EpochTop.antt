@@ -8,7 +8,7 @@ use Rattle.std.proofs.lemmas.List.FromFn.{get_or-map-range_with_len, length-map-
 use Rattle.std.proofs.lemmas.List.Sorted.{IsPermutation-map, All-permutation}
 use Rattle.flow_core_laws.specs.declared.activation.Activation.{Activation}
 use Rattle.flow_core_laws.specs.declared.plan.Plan.{Plan}
-use Rattle.flow_core_laws.specs.Element.{given}
+use Rattle.flow_core_laws.specs.Element.{initial}
 use Rattle.flow_core_laws.specs.Window.{Window, claims_of, producer}
 use Rattle.flow_core_laws.specs.Place.{Place, input_places}
 use Rattle.flow_core_laws.specs.Streams.{stream_source}
@@ -28,7 +28,7 @@ map-same f g (x ∷ xs) same = ap (λ y. y ∷ map f xs) (same x) ∙ ap (λ ys.
 
 pub stands_same : (plan : Plan) (activations : List Activation) (input readers frames : List ℕ) (one other : List epoch.Kept) (places : List Place) → ((p : Place) → value_kept one p ≡ value_kept other p) → StandsForEpoch plan activations input readers frames one places → StandsForEpoch plan activations input readers frames other places
 stands_same plan activations input readers frames one other places same s =
-    let source : (p : Place) → epoch_source activations input frames one p ≡ epoch_source activations input frames other p = λ p. ap (λ o. option_map_or given o (among frames (stream_source activations input p))) (same p) in
+    let source : (p : Place) → epoch_source activations input frames one p ≡ epoch_source activations input frames other p = λ p. ap (λ o. option_map_or initial o (among frames (stream_source activations input p))) (same p) in
     record {
       frames_are_these = s.frames_are_these;
       numbers_are_theirs = s.numbers_are_theirs;

@@ -16,7 +16,7 @@ use Rattle.flow_core_epochs.specs.Epoch.{number_in, among, epoch_source}
 use Rattle.flow_core_laws.specs.declared.plan.Plan.{Plan}
 use Rattle.flow_core_laws.specs.IsSound.{IsSound}
 use Rattle.flow_core_laws.specs.StandsFor.{StandsFor}
-use Rattle.flow_core_laws.specs.Element.{given, fed, nobody}
+use Rattle.flow_core_laws.specs.Element.{initial, fed, nobody}
 use Rattle.flow_core_laws.specs.Streams.{input_source, produced_source, stream_source}
 use Rattle.flow_core_laws.specs.Plans.{plan_reads}
 use Rattle.flow_core_laws.specs.declared.elem.Elem.TheVariants.{Value}
@@ -97,15 +97,15 @@ module _ (layout : Layout) (is : IsLayout layout) where
         let lt : w.activation < length activations = let x = v.exists in omega arith in
         ap (λ o. option_map_or (λ f. fed f (w.offset + (position - w.first))) o nobody) (number w.activation lt)
 
-    given_source : (position : ℕ) (o : Option ℕ) → among (all_frames layout) (option_map_or (λ byte. given (Value (pos byte))) o nobody) ≡ option_map_or (λ byte. given (Value (pos byte))) o nobody
-    given_source position None = refl
-    given_source position (Some byte) = refl
+    initial_source : (position : ℕ) (o : Option ℕ) → among (all_frames layout) (option_map_or (λ byte. initial (Value (pos byte))) o nobody) ≡ option_map_or (λ byte. initial (Value (pos byte))) o nobody
+    initial_source position None = refl
+    initial_source position (Some byte) = refl
 
     same_source : (p : Place) → epoch_source activations input (all_frames layout) [] p ≡ stream_source activations input p
     same_source p = by_stream (p.stream == 0)
       where
         by_stream : (b : Bool) → among (all_frames layout) (cond b (input_source input p.position) (produced_source activations p.stream p.position)) ≡ cond b (input_source input p.position) (produced_source activations p.stream p.position)
-        by_stream true = given_source p.position (slice_get input p.position)
+        by_stream true = initial_source p.position (slice_get input p.position)
         by_stream false = produced p.stream p.position (producer activations p.stream p.position) refl
 
     module _ (plan : Plan) (laid : IsWoven layout (whole_weave layout input) plan) where

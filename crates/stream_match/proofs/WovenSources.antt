@@ -9,7 +9,7 @@ use Rattle.flow_core_laws.specs.declared.plan.Piece.{Piece}
 use Rattle.flow_core_laws.specs.Place.{Place}
 use Rattle.flow_core_laws.proofs.Stretches.{map-range-add, map-range-shift}
 use Rattle.flow_core_laws.specs.declared.plan.Plan.{Plan}
-use Rattle.flow_core_laws.specs.Element.{Source, given, fed, nobody}
+use Rattle.flow_core_laws.specs.Element.{Source, initial, fed, nobody}
 use Rattle.flow_core_laws.specs.Plans.{frame_at, held_at, piece_at, piece_source, cell_source, plan_reads}
 use Rattle.flow_core_laws.proofs.Sources.{cell_source-covered, fed-covered}
 use Rattle.flow_core_laws.specs.declared.elem.Elem.{Elem}
@@ -43,10 +43,10 @@ module _ (layout : Layout) (weave : Weave) (can : CanWeave layout weave) (plan :
   abbrev pub cell_of : ℕ → ℕ → ℕ → ℕ
   cell_of f i k = length (cells_of_first weave f) + (total (take i (weave.reaches f)) + k)
 
-  -- a cell that holds something at opening is given it
-  pub given_by : (f i k : ℕ) (v : Elem) → f ≤ weave.frames → i < length (weave.reaches f) → k < (reach_at weave f i).count → weave.opening (reach_at weave f i).stream ((reach_at weave f i).first + k) ≡ Some v → cell_source plan (cell_of f i k) ≡ given v
+  -- a cell that holds something at opening is initial
+  pub initial_by : (f i k : ℕ) (v : Elem) → f ≤ weave.frames → i < length (weave.reaches f) → k < (reach_at weave f i).count → weave.opening (reach_at weave f i).stream ((reach_at weave f i).first + k) ≡ Some v → cell_source plan (cell_of f i k) ≡ initial v
   unfolding cell_source
-  given_by f i k v le lt kl e = ap (λ o. option_map_or given o (piece_source plan (cell_of f i k))) (opening layout weave plan laid f i k le lt kl ∙ e)
+  initial_by f i k v le lt kl e = ap (λ o. option_map_or initial o (piece_source plan (cell_of f i k))) (opening layout weave plan laid f i k le lt kl ∙ e)
 
   -- a position that the write span of a frame covers is fed by it
   pub fed_by : (f i k place g : ℕ) → f ≤ weave.frames → i < length (weave.reaches f) → k < (reach_at weave f i).count → WritesAt layout weave (reach_at weave f i).stream ((reach_at weave f i).first + k) place g
@@ -70,7 +70,7 @@ module _ (layout : Layout) (weave : Weave) (can : CanWeave layout weave) (plan :
   from_nobody c none free = by_piece (option_and_then (λ number. slice_get plan.pieces number) (piece_at plan c)) refl
     where
       source_is : (o : Option Piece) → option_and_then (λ number. slice_get plan.pieces number) (piece_at plan c) ≡ o → cell_source plan c ≡ option_map_or (λ (p : Piece). fed p.from (p.first + (c - p.at))) o nobody
-      source_is o e = ap (λ v. option_map_or given v (piece_source plan c)) none ∙ ap (λ p. option_map_or (λ (p : Piece). fed p.from (p.first + (c - p.at))) p nobody) e
+      source_is o e = ap (λ v. option_map_or initial v (piece_source plan c)) none ∙ ap (λ p. option_map_or (λ (p : Piece). fed p.from (p.first + (c - p.at))) p nobody) e
 
       by_piece : (o : Option Piece) → option_and_then (λ number. slice_get plan.pieces number) (piece_at plan c) ≡ o → cell_source plan c ≡ nobody
       by_piece None e = source_is None e

@@ -7,7 +7,7 @@ use Rattle.flow_core_laws.specs.declared.plan.Plan.{Plan}
 use Rattle.flow_core_laws.specs.declared.outcome.Outcome.{Outcome}
 use Rattle.flow_core_laws.specs.declared.task_end.TaskEnd.{TaskEnd}
 use Rattle.flow_core_laws.specs.Outcome.{outcome_at, State}
-use Rattle.flow_core_laws.specs.Element.{Source, given, fed, nobody, written, output_at}
+use Rattle.flow_core_laws.specs.Element.{Source, initial, fed, nobody, written, output_at}
 use Rattle.flow_core_laws.specs.Round.{gathered, inputs_in, IsEnabled}
 use Rattle.flow_core_laws.specs.Poisoning.{poisoning}
 use Rattle.flow_core_laws.specs.Plans.{frame_at, number_at, cells_of, held_at, cell_source, plan_reads, plan_element, plan_meaning}
@@ -45,7 +45,7 @@ module _ (plan : Plan) (outcome : ℕ → List ℤ → Outcome) (lists : List (L
 
   -- a source shows its element in that state
   shown_behind : (source : Source) → shown (number_at plan) board.ends.items (plan_meaning plan outcome) source ≡ plan_element plan behind source
-  shown_behind (given e) = refl
+  shown_behind (initial e) = refl
   shown_behind nobody = refl
   shown_behind (fed f k) = by (outcome_at behind f) refl
     where

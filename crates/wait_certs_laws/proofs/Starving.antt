@@ -14,7 +14,7 @@ use Rattle.flow_core_laws.proofs.Rounds.{after, after-suc, outcome_at-start, out
 use Rattle.flow_core_laws.specs.declared.elem.Elem.TheVariants.{Value}
 use Rattle.flow_core_laws.specs.declared.outcome.Outcome.{Outcome}
 use Rattle.flow_core_laws.specs.Element as elements
-use Rattle.flow_core_laws.specs.Element.{Source, given, fed}
+use Rattle.flow_core_laws.specs.Element.{Source, initial, fed}
 use Rattle.flow_core_laws.specs.Poisoning.{poisoning}
 use Rattle.flow_core_laws.specs.Streams.{input_source, stream_source, stream_reads, stream_element, stream_meaning}
 use Rattle.flow_core_laws.proofs.There.{end_of}
@@ -52,7 +52,7 @@ module _ (activations : List Activation) (input : List ℕ) where
       by true true o e (inr (b, h, n)) = absurd (cc)
       by true false o e h =
           let past : length input ≤ place.position = grind (arith, nat_tests) in
-          ap (λ (q : Option ℕ). stream_element s (option_map_or (λ byte. given (Value (pos byte))) q elements.nobody)) (slice_get_past input place.position past)
+          ap (λ (q : Option ℕ). stream_element s (option_map_or (λ byte. initial (Value (pos byte))) q elements.nobody)) (slice_get_past input place.position past)
       by false c None e h = refl
       by false c (Some w) e (inl h) = absurd (cc)
       by false c (Some w) e (inr (b, h, n)) =
