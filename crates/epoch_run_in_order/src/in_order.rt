@@ -74,8 +74,16 @@ impl InOrder {
         let mut count = 0;
         'running: while count < activations.len() && self.steps.saturating_sub(begun) < most_steps {
             gate.at(0, count as u32);
-            let spans = layout.spans_of(first + count);
-            let ran = self.run_next(code, &activations[count], spans, input, budget)?;
+            let number = first + count;
+            let spans = layout.spans_of(number);
+            let ran = self.run_next(
+                code,
+                number as u32,
+                &activations[count],
+                spans,
+                input,
+                budget,
+            )?;
             if !ran {
                 break 'running;
             }

@@ -1,6 +1,6 @@
 //! Running the next activation.
 
-ghost use Rattle.std.specs.Prelude.{◌≡◌, ◌∷◌, ◌++◌, ◌+◌, ◌^◌, ◌<◌, ◌≤◌, [], All, IfOk, List, None, OnOk, Some, false, length, map, slice_get, true};
+ghost use Rattle.std.specs.Prelude.{◌≡◌, ◌∷◌, ◌++◌, ◌+◌, ◌^◌, ◌<◌, ◌≤◌, ℕ, [], All, IfOk, List, None, OnOk, Some, false, length, map, slice_get, true};
 ghost use Rattle.flow_core_laws.specs.Poisoning.{least_root, values_of};
 ghost use Rattle.flow_core_laws.specs.Streams.{output_count};
 ghost use Rattle.flow_core_laws.specs.Window.{windows_of};
@@ -12,7 +12,7 @@ ghost use Rattle.stream_match_layouts.specs.Layout.{span_of};
 ghost use Rattle.stream_match_layouts.specs.declared.span.Span.{Span};
 ghost use Rattle.task_vm.specs.Space.{IsMadeFor};
 ghost use Rattle.epoch_run_in_order.specs.Reading.{values_in};
-ghost use Rattle.epoch_run_in_order.specs.Standing.{AreNext, IsReady, StandsBehind, outcome_by};
+ghost use Rattle.epoch_run_in_order.specs.Standing.{AreNext, IsReady, StandsApart, StandsBehind, outcome_by};
 
 use crate::in_order::InOrder;
 use crate::inputs::Inputs;
@@ -23,11 +23,12 @@ use stream_match_layouts::Span;
 use task_vm::{Scratch, run_task};
 
 impl InOrder {
-    /// Runs the next activation by its spans, if all that it reads is there. It answers whether it ran: if not, the ends and the streams
-    /// are as they were. After `Memory` the run is to be given up.
+    /// Runs the next activation, which has this number, by its spans, if all that it reads is there. It answers whether it ran: if not, the
+    /// ends and the streams are as they were. After `Memory` the run is to be given up.
     pub(crate) fn run_next(
         &mut self,
         code: &Code,
+        number: u32,
         activation: &Activation,
         spans: &[Span],
         input: &[u8],
@@ -36,15 +37,21 @@ impl InOrder {
         requires fits { Fits (parts_of code.now) activation.now }
         requires budget { budget ≤ 1000000000 }
         requires ready { IsReady code.now self.old }
-        requires next { AreNext (length self.old.ends) activation.now spans.now }
+        requires next { AreNext number activation.now spans.now }
         requires exist { All (λ (s : Span). s.stream < code.now.streams) spans.now }
         ensures ready { OnOk result (IsReady code.now self.new) }
         ensures waits { IfOk result (λ ran. ran ≡ false → (self.new.ends ≡ self.old.ends) × (self.new.streams ≡ self.old.streams)) }
         ensures count { IfOk result (λ ran. ran ≡ true → length self.new.ends ≡ length self.old.ends + 1) }
-        ensures ran { IfOk result (λ ran. ran ≡ true → (all before : List Activation) → slice_get all (length before) ≡ Some activation.now
+        ensures ran { IfOk result (λ ran. ran ≡ true → (all before : List Activation) → length before ≡ number
+            → slice_get all (length before) ≡ Some activation.now
             → spans.now ≡ map span_of (windows_of (before ++ activation.now ∷ []) (length before))
             → StandsBehind (parts_of code.now) all before input.now budget self.old
             → StandsBehind (parts_of code.now) all (before ++ activation.now ∷ []) input.now budget self.new) }
+        ensures ran_apart { IfOk result (λ ran. ran ≡ true → (all before : List Activation) (from : ℕ) → length before ≡ number
+            → slice_get all (length before) ≡ Some activation.now
+            → spans.now ≡ map span_of (windows_of (before ++ activation.now ∷ []) (length before))
+            → StandsApart (parts_of code.now) all from before input.now budget self.old
+            → StandsApart (parts_of code.now) all from (before ++ activation.now ∷ []) input.now budget self.new) }
     {
         let read = self.inputs.read_all(&self.streams, input, spans)?;
         let Some(written) = read else {
@@ -60,7 +67,7 @@ impl InOrder {
             budget,
         )?;
         self.steps = self.steps.saturating_add(self.scratch.steps());
-        let root = end.root(self.ends.len() as u32);
+        let root = end.root(number);
         self.streams
             .write_all(spans, root, self.outputs.as_slice())?;
         self.ends.push(Some(end))?;

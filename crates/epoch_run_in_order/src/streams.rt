@@ -40,6 +40,21 @@ impl Streams {
         Ok(Streams { elements, firsts })
     }
 
+    /// Streams without elements, each from a position on.
+    pub(crate) fn from_positions(alloc: Global, firsts: &[u64]) -> Result<Streams, Memory>
+        ensures elements { IfOk result (λ streams. streams.elements ≡ replicate (length firsts.now) []) }
+        ensures firsts { IfOk result (λ streams. streams.firsts ≡ firsts.now) }
+    {
+        let mut elements = List::with_capacity(alloc, firsts.len())?;
+        for _ in 0..firsts.len() {
+            elements.push(List::new(alloc))?;
+        }
+        Ok(Streams {
+            elements,
+            firsts: List::from_slice(alloc, firsts)?,
+        })
+    }
+
     /// Where the elements that a span covers begin among those of its stream; none where some of them aren't there.
     pub(crate) fn place_of(&self, span: &Span) -> Option<usize>
         requires exists { span.now.stream < length self.now.elements }
