@@ -62,7 +62,7 @@ length-elements_on activations input state stream =
     ∙ length-map-range_with_len (λ position. record { stream = stream; position = position }) 0 (written_count activations stream)
 
 -- a list whose loan ended with an element set
-written_back : {A : Type 0} (xs ys : List A) (i : ℕ) (a : A) → ys ≡ xs → take (length xs) (slice_set ys i a ++ drop (length (slice_set ys i a)) xs) ≡ slice_set xs i a
+pub written_back : {A : Type 0} (xs ys : List A) (i : ℕ) (a : A) → ys ≡ xs → take (length xs) (slice_set ys i a ++ drop (length (slice_set ys i a)) xs) ≡ slice_set xs i a
 written_back xs ys i a same =
     ap (λ zs. take (length xs) (slice_set zs i a ++ drop (length (slice_set zs i a)) xs)) same
     ∙ take_at (slice_set xs i a) (drop (length (slice_set xs i a)) xs) (length xs) (length-set xs i a)

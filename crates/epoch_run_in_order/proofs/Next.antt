@@ -37,7 +37,7 @@ use Rattle.epoch_run_in_order.specs.declared.inputs.Inputs.{Inputs}
 use Rattle.epoch_run_in_order.specs.declared.streams.Streams.{Streams}
 use Rattle.epoch_run_in_order.specs.Reading.{AreRead, covered_by}
 use Rattle.epoch_run_in_order.specs.Standing.{AreNext, StandsBehind, meaning_in, outcome_by}
-use Rattle.epoch_run_in_order.specs.Writing.{with_spans}
+use Rattle.epoch_run_in_order.specs.Writing.{HaveOutputs, with_spans}
 use Rattle.epoch_run_in_order.proofs.NextReads.{held_in, next_places, next_reads_there}
 use Rattle.epoch_run_in_order.proofs.NextWrites.{hold_more}
 
@@ -107,8 +107,28 @@ next_room count next spans are outputs room k d lt writes =
     let h = ap (λ (s : Span). s.count) here in
     omega (arith, fits, all, room, o, h)
 
-abbrev outcome_next : Parts → (all before : List Activation) → List Elem → (budget : ℕ) → Outcome
+abbrev pub outcome_next : Parts → (all before : List Activation) → List Elem → (budget : ℕ) → Outcome
 outcome_next code all before elements budget = poisoning (frame_outcome code all budget) (length before) elements
+
+-- it ends as it means by itself
+pub outcome_is : (code : Parts) (all before : List Activation) (next : Activation) (elements : List Elem) (budget : ℕ) → slice_get all (length before) ≡ Some next
+    → outcome_next code all before elements budget ≡ outcome_by code next elements budget
+outcome_is code all before next elements budget at =
+    ap (λ (x : Option Activation). option_map_or (λ r. outcome_of (Poisoned r) []) (least_root elements) (option_map_or (λ (a : Activation). task_outcome code a (values_of elements) budget) x over_budget)) at
+
+-- the streams of its windows are among those of its spans
+pub windows_exist : (ws : List Window) (spans : List Span) (n : ℕ) → spans ≡ map span_of ws → All (λ (s : Span). s.stream < n) spans → (k : ℕ) (d : Window) → k < length ws → (get_or ws k d).claim.stream < n
+windows_exist ws spans n spans_are exist k d lt =
+    let same = ap (λ ss. get_or ss k (span_of d)) spans_are ∙ get_or-map span_of ws k d (span_of d) lt in
+    let h = exist k (span_of d) (omega (arith, ap length spans_are, length-map ws span_of, lt)) in
+    let e = ap (λ (s : Span). s.stream) same in
+    omega (arith, h, e)
+
+-- where nothing is poisoned its outputs have room for what it writes
+pub next_have : (count : ℕ) (next : Activation) (spans : List Span) → AreNext count next spans → (end : TaskEnd) (root : Option ℕ) (outputs : List ℤ)
+    → root ≡ root_of count end → (end ≡ Done → length outputs ≡ output_count next) → HaveOutputs root outputs spans
+next_have count next spans are end root outputs root_is room = λ none k d lt writes.
+    next_room count next spans are outputs (room (no_root count end (sym root_is ∙ none))) k d lt writes
 
 -- behind it the run stands behind one activation more
 pub next_stands : (code : Parts) (all before : List Activation) (next : Activation) (input : List ℕ) (budget : ℕ) (order after : InOrder) (inputs : Inputs) (end : TaskEnd) (root : Option ℕ) (outputs : List ℤ) (spans : List Span)
@@ -116,7 +136,7 @@ pub next_stands : (code : Parts) (all before : List Activation) (next : Activati
     → All (λ (s : Span). s.stream < length order.streams.elements) spans → StandsBehind code all before input budget order
     → (read : AreRead (covered_by order.streams input spans) inputs)
     → end ≡ (outcome_by code next read.elements budget).end → (end ≡ Done → outputs ≡ (outcome_by code next read.elements budget).outputs)
-    → root ≡ root_of (length order.ends) end → after.ends ≡ order.ends ++ Some end ∷ []
+    → root ≡ root_of (length before) end → after.ends ≡ order.ends ++ Some end ∷ []
     → after.streams.elements ≡ with_spans root outputs order.streams.elements spans → after.streams.firsts ≡ order.streams.firsts
     → StandsBehind code all (before ++ next ∷ []) input budget after
 next_stands code all before next input budget order after inputs end root outputs spans at spans_are exist stands read end_is done root_is ends_are elements_are firsts_are = record {
@@ -133,20 +153,17 @@ next_stands code all before next input budget order after inputs end root output
 }
   where
     o_is : (outcome_next code all before read.elements budget) ≡ outcome_by code next read.elements budget
-    o_is = ap (λ (x : Option Activation). option_map_or (λ r. outcome_of (Poisoned r) []) (least_root read.elements) (option_map_or (λ (a : Activation). task_outcome code a (values_of read.elements) budget) x over_budget)) at
+    o_is = outcome_is code all before next read.elements budget at
 
     goes : meaning_in code all (before ++ next ∷ []) input budget ≡ (meaning_in code all before input budget) ++ Some (outcome_next code all before read.elements budget) ∷ []
     goes = goes_on before next input (frame_outcome code all budget) read.elements stands.have_ended
-        (next_reads_there order.streams before input (meaning_in code all before input budget) stands.hold next read.elements (ap (λ ss. gathered (covered_by order.streams input ss)) (sym spans_are) ∙ read.are_there))
+        (next_reads_there order.streams before input (meaning_in code all before input budget) stands.hold.are_theirs next read.elements (ap (λ ss. gathered (covered_by order.streams input ss)) (sym spans_are) ∙ read.are_there))
 
     size : length (meaning_in code all before input budget) ≡ length before
     size = length-meaning stream_element (stream_reads before input) (poisoning (frame_outcome code all budget)) (length before)
 
-    count : length order.ends ≡ length before
-    count = ap length stands.ends_are ∙ length-map (meaning_in code all before input budget) (option_map (λ (q : Outcome). q.end)) ∙ size
-
     root_of_o : root ≡ root_of (length before) (outcome_next code all before read.elements budget).end
-    root_of_o = root_is ∙ ap (λ n. root_of n end) count ∙ ap (root_of (length before)) (end_is ∙ ap (λ (q : Outcome). q.end) (sym o_is))
+    root_of_o = root_is ∙ ap (root_of (length before)) (end_is ∙ ap (λ (q : Outcome). q.end) (sym o_is))
 
     done_o : (outcome_next code all before read.elements budget).end ≡ Done → outputs ≡ (outcome_next code all before read.elements budget).outputs
     done_o e = done (end_is ∙ ap (λ (q : Outcome). q.end) (sym o_is) ∙ e) ∙ ap (λ (q : Outcome). q.outputs) (sym o_is)
@@ -156,9 +173,4 @@ next_stands code all before next input budget order after inputs end root output
     one (suc k) d lt = absurd (omega arith)
 
     each : (k : ℕ) (d : Window) → k < length (windows_of (before ++ next ∷ []) (length before)) → (get_or (windows_of (before ++ next ∷ []) (length before)) k d).claim.stream < length order.streams.elements
-    each k d lt =
-        let ws = windows_of (before ++ next ∷ []) (length before) in
-        let same = ap (λ ss. get_or ss k (span_of d)) spans_are ∙ get_or-map span_of ws k d (span_of d) lt in
-        let h = exist k (span_of d) (omega (arith, ap length spans_are, length-map ws span_of)) in
-        let e = ap (λ (s : Span). s.stream) same in
-        omega (arith, h, e)
+    each = windows_exist (windows_of (before ++ next ∷ []) (length before)) spans (length order.streams.elements) spans_are exist

@@ -20,7 +20,7 @@ use Rattle.flow_core_laws.specs.Streams.{input_source, produced_source, stream_e
 use Rattle.flow_core_laws.specs.Window.{Window, windows_of}
 use Rattle.flow_core_laws.proofs.Gathering.{gathered-weaker, length-gathered}
 use Rattle.flow_core_laws.proofs.Roots.{others_are_values}
-use Rattle.epoch_run_in_order_laws.specs.InOrder.{HoldElements, next_reads}
+use Rattle.epoch_run_in_order_laws.specs.InOrder.{elements_on, next_reads}
 use Rattle.stream_match_layouts.specs.declared.span.Span.{Span}
 use Rattle.stream_match_layouts.specs.Layout.{span_of}
 use Rattle.epoch_run_in_order.specs.declared.inputs.Inputs.{Inputs}
@@ -84,7 +84,8 @@ on_list f xs stream first count position e is le at = by (cases_lt position coun
         let some : get_or all position None ≡ Some e = there in
         absurd (cc)
 
-module _ (streams : Streams) (before : List Activation) (input : List ℕ) (state : State) (hold : HoldElements before input state streams.elements streams.firsts) where
+module _ (streams : Streams) (before : List Activation) (input : List ℕ) (state : State)
+    (are_theirs : (stream : ℕ) → 1 ≤ stream → stream < length streams.elements → elements_of streams stream ≡ drop (first_of streams stream) (elements_on before input state stream)) where
   abbrev here : Place → Option Elem
   here p = stream_element state (stream_source before input p)
 
@@ -102,7 +103,7 @@ module _ (streams : Streams) (before : List Activation) (input : List ℕ) (stat
         where
           by_list : (p.stream < length streams.elements) ⊎ (length streams.elements ≤ p.stream) → here p ≡ Some e
           by_list (inl lt) = on_list here (elements_of streams p.stream) p.stream (first_of streams p.stream) (written_count before p.stream) p.position e
-              (hold.are_theirs p.stream some lt ∙ ap (drop (first_of streams p.stream)) (sym (map-here p.stream (written_count before p.stream)))) (grind (arith, nat_tests)) h
+              (are_theirs p.stream some lt ∙ ap (drop (first_of streams p.stream)) (sym (map-here p.stream (written_count before p.stream)))) (grind (arith, nat_tests)) h
             where
               map-here : (s n : ℕ) → map here (map (λ at. record { stream = s; position = at }) (range_with_len 0 n)) ≡ map (λ (q : Place). stream_element state (stream_source before input q)) (map (λ at. record { stream = s; position = at }) (range_with_len 0 n))
               map-here s n = refl

@@ -112,6 +112,20 @@ written_grows s before next =
 length-elements_on : (before : List Activation) (input : List ℕ) (state : State) (s : ℕ) → length (elements_on before input state s) ≡ written_count before s
 length-elements_on before input state s = length-map (places_from s 0 (written_count before s)) (λ (p : Place). stream_element state (stream_source before input p)) ∙ length-map-range_with_len (λ position. record { stream = s; position = position }) 0 (written_count before s)
 
+-- behind what a stream held stands what the next activation wrote to it
+pub stream_grows : (before : List Activation) (next : Activation) (o : Outcome) (root : Option ℕ) (outputs : List ℤ) (elements more : List (List (Option Elem)))
+    → root ≡ root_of (length before) o.end → (o.end ≡ Done → outputs ≡ o.outputs)
+    → ((k : ℕ) (d : Window) → k < length (windows_of (before ++ next ∷ []) (length before)) → (get_or (windows_of (before ++ next ∷ []) (length before)) k d).claim.stream < length elements)
+    → more ≡ with_spans root outputs elements (map span_of (windows_of (before ++ next ∷ []) (length before)))
+    → (s : ℕ) → get_or more s [] ≡ get_or elements s [] ++ written_to (length before) o (windows_of (before ++ next ∷ []) (length before)) s
+stream_grows before next o root outputs elements more root_is done each is s =
+    let ws = windows_of (before ++ next ∷ []) (length before) in
+    let new_is : flat_map (λ (w : Window). written_through root outputs (span_of w)) (filter (λ (w : Window). is_write_to s w.claim) ws) ≡ written_to (length before) o ws s =
+    ap (λ r. flat_map (λ (w : Window). written_through r outputs (span_of w)) (filter (λ (w : Window). is_write_to s w.claim) ws)) root_is ∙ outcome_through (length before) o outputs done (filter (λ (w : Window). is_write_to s w.claim) ws) in
+    ap (λ xs. get_or xs s []) is
+    ∙ with_all root outputs s elements ws each
+    ∙ ap (λ xs. get_or elements s [] ++ xs) new_is
+
 -- the streams hold what they held, and what the next activation wrote
 pub hold_more : (before : List Activation) (next : Activation) (input : List ℕ) (state : State) (o : Outcome) (root : Option ℕ) (outputs : List ℤ) (elements more : List (List (Option Elem))) (firsts : List ℕ)
     → HoldElements before input state elements firsts → length state ≡ length before → root ≡ root_of (length before) o.end → (o.end ≡ Done → outputs ≡ o.outputs)
@@ -138,11 +152,7 @@ hold_more before next input state o root outputs elements more firsts hold as_ma
         let first = get_or firsts s 0 in
         let old = elements_on before input state s in
         let wrote = written_to (length before) o ws s in
-        let new_is : flat_map (λ (w : Window). written_through root outputs (span_of w)) (filter (λ (w : Window). is_write_to s w.claim) ws) ≡ wrote =
-        ap (λ r. flat_map (λ (w : Window). written_through r outputs (span_of w)) (filter (λ (w : Window). is_write_to s w.claim) ws)) root_is ∙ outcome_through (length before) o outputs done (filter (λ (w : Window). is_write_to s w.claim) ws) in
-        ap (λ xs. get_or xs s []) is
-        ∙ with_all root outputs s elements ws each
-        ∙ ap (λ xs. get_or elements s [] ++ xs) new_is
+        stream_grows before next o root outputs elements more root_is done each is s
         ∙ ap (λ xs. xs ++ wrote) (hold.are_theirs s some (omega (arith, size)))
         ∙ sym (drop-append-le first old wrote (omega (arith, length-elements_on before input state s, hold.are_claimed s (omega (arith, size)))))
         ∙ ap (drop first) (sym (elements_grow before next input state o s some as_many))

@@ -91,7 +91,9 @@ impl Apart {
             → StandsApart (parts_of code.now) all from (before ++ activation.now ∷ []) input.now budget self.new.order) }
     {
         let number = self.first + self.order.ends.len() as u32;
-        self.order
-            .run_next(code, number, activation, spans, input, budget)
+        let ran = self
+            .order
+            .run_next(code, number, activation, spans, input, budget)?;
+        Ok(ran)
     }
 }

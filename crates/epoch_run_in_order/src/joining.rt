@@ -1,6 +1,6 @@
 //! Putting a run apart behind one of the activations before it.
 
-ghost use Rattle.std.specs.Prelude.{◌≡◌, ◌+◌, ◌-◌, ◌<◌, ◌≤◌, ◌++◌, ℕ, [], List, OnOk, drop, length, slice_index, slice_index_or, take};
+ghost use Rattle.std.specs.Prelude.{◌≡◌, ◌+◌, ◌-◌, ◌<◌, ◌≤◌, ◌++◌, ℕ, [], List, OnOk, drop, length, min, slice_index, slice_index_or, take};
 ghost use Rattle.flow_core_laws.specs.declared.activation.Activation.{Activation};
 ghost use Rattle.os_code.specs.declared.code.Code.{Code};
 ghost use Rattle.os_code.specs.declared.parts.Parts.{Parts};
@@ -32,7 +32,8 @@ impl InOrder {
         apart_and_joined();
         let past = self.ends.len() - apart.first as usize;
         add_ends(&mut self.ends, &apart.order.ends.as_slice()[past..])?;
-        self.streams.join(&apart.order.streams)
+        self.streams.join(&apart.order.streams)?;
+        Ok(())
     }
 }
 
@@ -67,17 +68,40 @@ impl Streams {
             return Ok(());
         }
         let held = &mut self.elements.as_mut_slice()[stream];
-        let end = cursor_of(self.firsts.as_slice(), stream).saturating_add(held.len() as u64);
-        let past = end.saturating_sub(cursor_of(other.firsts.as_slice(), stream));
-        add_from(held, other.elements.as_slice()[stream].as_slice(), past)
+        let others = other.elements.as_slice()[stream].as_slice();
+        let past = overlap(
+            cursor_of(self.firsts.as_slice(), stream),
+            held.len(),
+            cursor_of(other.firsts.as_slice(), stream),
+            others.len(),
+        );
+        add_from(held, others, past)?;
+        Ok(())
     }
 }
 
+/// How many of the others' elements stand where elements that are held do or before: each are so many from a position on.
+fn overlap(first: u64, held: usize, other_first: u64, other_held: usize) -> usize
+    ensures { result ≡ min (first + held - other_first) other_held }
+{
+    let held = held as u64;
+    let past = if other_first >= first {
+        held.saturating_sub(other_first - first)
+    } else {
+        (first - other_first).saturating_add(held)
+    };
+    past.min(other_held as u64) as usize
+}
+
 /// Adds the elements of a slice but for so many first ones.
-fn add_from(elements: &mut List<Option<Elem>>, more: &[Option<Elem>], past: u64) -> Result<(), Memory>
+fn add_from(
+    elements: &mut List<Option<Elem>>,
+    more: &[Option<Elem>],
+    past: usize,
+) -> Result<(), Memory>
+    requires { past ≤ length more.now }
     ensures { OnOk result (elements.new ≡ elements.old ++ drop past more.now) }
 {
-    let past = past.min(more.len() as u64) as usize;
     let (_, beyond) = more.split_at(past);
     elements.reserve(beyond.len())?;
     for element in beyond {

@@ -16,6 +16,7 @@ ghost use Rattle.epoch_run_in_order.specs.Standing.{AreNext, IsReady, StandsApar
 
 use crate::in_order::InOrder;
 use crate::inputs::Inputs;
+use epoch_run_in_order_laws::laws::apart_and_joined;
 use flow_core_laws::{Activation, TaskEnd};
 use os_code::Code;
 use os_io::Memory;
@@ -53,6 +54,7 @@ impl InOrder {
             → StandsApart (parts_of code.now) all from before input.now budget self.old
             → StandsApart (parts_of code.now) all from (before ++ activation.now ∷ []) input.now budget self.new) }
     {
+        apart_and_joined();
         let read = self.inputs.read_all(&self.streams, input, spans)?;
         let Some(written) = read else {
             return Ok(false);

@@ -20,8 +20,13 @@ overflow_cast-count g c =
     let last : AreLast c.args.code.now c.args.layout.now c.len-first.result c.args.activations.now = subst (λ n. AreLast c.args.code.now c.args.layout.now n c.args.activations.now) (sym c.len-first.ensures) c.requires.last in
     omega (arith, is_frame c.args.code.now c.args.layout.now c.len-first.result c.args.activations.now last c.running.count c.running-test.true, frames_bound c.args.layout.now last.whole)
 
-pub overflow_add-first : goal.overflow_add-first
-overflow_add-first g c =
+pub overflow_add-number : goal.overflow_add-number
+overflow_add-number g c =
+    let last : AreLast c.args.code.now c.args.layout.now c.len-first.result c.args.activations.now = subst (λ n. AreLast c.args.code.now c.args.layout.now n c.args.activations.now) (sym c.len-first.ensures) c.requires.last in
+    omega (arith, is_frame c.args.code.now c.args.layout.now c.len-first.result c.args.activations.now last c.running.count c.running-test.true, frames_bound c.args.layout.now last.whole)
+
+pub overflow_cast-number : goal.overflow_cast-number
+overflow_cast-number g c =
     let last : AreLast c.args.code.now c.args.layout.now c.len-first.result c.args.activations.now = subst (λ n. AreLast c.args.code.now c.args.layout.now n c.args.activations.now) (sym c.len-first.ensures) c.requires.last in
     omega (arith, is_frame c.args.code.now c.args.layout.now c.len-first.result c.args.activations.now last c.running.count c.running-test.true, frames_bound c.args.layout.now last.whole)
 
@@ -35,9 +40,8 @@ run_next-requires-clause-next g c =
     let last : AreLast c.args.code.now c.args.layout.now c.len-first.result c.args.activations.now = subst (λ n. AreLast c.args.code.now c.args.layout.now n c.args.activations.now) (sym c.len-first.ensures) c.requires.last in
     let next = are_next c.args.code.now c.args.layout.now c.len-first.result c.args.activations.now last c.running.count no_activation c.running-test.true in
     let x_is : get_or c.args.activations.now c.running.count no_activation ≡ c.index-activations-count.result = first_of (cc, grind (arith, common_steps)) in
-    subst (λ n. AreNext n c.index-activations-count.result c.spans_of-spans.result.now) (sym c.running.invariant.have_run)
-    (subst (λ (ss : List Span). AreNext (c.len-first.result + c.running.count) c.index-activations-count.result ss) (sym c.spans_of-spans.ensures)
-    (subst (λ (x : Activation). AreNext (c.len-first.result + c.running.count) x (spans_of c.args.layout.now (c.len-first.result + c.running.count))) x_is next))
+    subst (λ (ss : List Span). AreNext (c.len-first.result + c.running.count) c.index-activations-count.result ss) (sym c.spans_of-spans.ensures)
+    (subst (λ (x : Activation). AreNext (c.len-first.result + c.running.count) x (spans_of c.args.layout.now (c.len-first.result + c.running.count))) x_is next)
 
 pub run_next-requires-clause-exist : goal.run_next-requires-clause-exist
 run_next-requires-clause-exist g c = λ k d lt.
@@ -64,6 +68,6 @@ running-preserved g c =
           let at : slice_get given n ≡ Some c.index-activations-count.result = next_there given activations first count no_activation are c.running-test.true ∙ ap Some x_is in
           let size : length (take n given) ≡ n = length-take-le n given (let lt = slice_get_within given n c.index-activations-count.result at in omega arith) in
           let spans = c.spans_of-spans.ensures ∙ next_spans c.args.layout.now given n c.index-activations-count.result is at ∙ ap (λ m. map span_of (windows_of (take n given ++ c.index-activations-count.result ∷ []) m)) (sym size) in
-          let step = c.in_ok-ran.ensures.ran ran all (take n given) (ap (slice_get all) size ∙ prefix_there all given n c.index-activations-count.result begins at) spans (c.running.invariant.stands all given is begins are before) in
+          let step = c.in_ok-ran.ensures.ran ran all (take n given) size (ap (slice_get all) size ∙ prefix_there all given n c.index-activations-count.result begins at) spans (c.running.invariant.stands all given is begins are before) in
           subst (λ xs. StandsBehind (parts_of c.args.code.now) all xs c.args.input.now c.args.budget c.run_next.new.self) (sym (ap (λ m. take m given) (let e : first + (count + 1) ≡ first + count + 1 = omega arith in e) ∙ take_next given n c.index-activations-count.result at)) step;
     }
