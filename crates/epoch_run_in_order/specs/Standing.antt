@@ -40,7 +40,8 @@ pub record StandsBehind (code : Parts) (all before : List Activation) (input : L
 
 -- The activations from a number on have run apart from those before it: each has ended as it means among all so far, whatever those before come
 -- to, and the streams hold what they wrote.
-pub record StandsApart (code : Parts) (all : List Activation) (from : ℕ) (before : List Activation) (input : List ℕ) (budget : ℕ) (order : InOrder) : Type 0 where
+pub record StandsApart (code : Parts) (all : List Activation) (from : ℕ) (before : List Activation) (input : List ℕ) (budget : ℕ)
+    (order : InOrder) : Type 0 where
   pub within : from ≤ length before
   pub ends_are : order.ends ≡ drop from (ends_of (meaning_in code all before input budget))
   pub have_ended : HaveEndedFrom from (meaning_in code all before input budget)

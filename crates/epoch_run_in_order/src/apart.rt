@@ -34,12 +34,7 @@ pub struct Apart {
 impl Apart {
     /// A run apart from so many activations, behind which the write cursors are these. It takes memory for what the code's tasks need, and a list
     /// for each stream.
-    pub fn behind(
-        alloc: Global,
-        code: &Code,
-        first: u32,
-        writes: &[u64],
-    ) -> Result<Apart, Memory>
+    pub fn behind(alloc: Global, code: &Code, first: u32, writes: &[u64]) -> Result<Apart, Memory>
         requires streams { length writes.now ≡ code.now.streams }
         ensures ready { IfOk result (λ apart. IsReady code.now apart.order) }
         ensures first { IfOk result (λ apart. apart.first ≡ first) }
