@@ -80,7 +80,7 @@ impl Streams {
     }
 }
 
-/// How many of the elements that others hold, so many from a position on, stand before the end of those that are held from another one on.
+/// How many of `other_held` elements from the position `other_first` on stand before the end of `held` elements from `first` on.
 fn overlap(first: u64, held: usize, other_first: u64, other_held: usize) -> usize
     ensures { result ≡ min (first + held - other_first) other_held }
 {

@@ -1,4 +1,4 @@
-use Rattle.std.proofs.Common.{◌≡◌, ◌-◌, ◌++◌, ◌∙◌, List, Option, drop, length, refl, ap}
+use Rattle.std.proofs.Common.{◌-◌, ◌++◌, ◌∙◌, List, Option, drop, length, refl, ap}
 use Rattle.std.proofs.lemmas.List.{take_rest}
 use Rattle.flow_core_laws.specs.declared.task_end.TaskEnd.{TaskEnd}
 use Rattle.epoch_run_in_order.proofs.Joined.{joined_stands}
