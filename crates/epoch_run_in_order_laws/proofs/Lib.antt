@@ -2,3 +2,5 @@ pub mod OneMore
 pub mod Growing
 pub mod Held
 pub mod Resuming
+pub mod Apart
+pub mod Joining

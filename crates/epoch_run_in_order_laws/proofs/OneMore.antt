@@ -29,16 +29,16 @@ module _ (before : List Activation) (next : Activation) (input : List ℕ) (body
   abbrev whole : State
   whole = stream_meaning (before ++ next ∷ []) input body
 
-  earlier_extends : Extends earlier whole
+  pub earlier_extends : Extends earlier whole
   earlier_extends = prefix_extends before (next ∷ []) input body
 
-  length_earlier : length earlier ≡ length before
+  pub length_earlier : length earlier ≡ length before
   length_earlier = length-meaning stream_element (stream_reads before input) (poisoning body) (length before)
 
   length_acts : length acts ≡ length before + 1
   length_acts = length-append before (next ∷ [])
 
-  length_whole : length whole ≡ length before + 1
+  pub length_whole : length whole ≡ length before + 1
   length_whole = length-meaning stream_element (stream_reads acts input) (poisoning body) (length acts) ∙ length_acts
 
   -- what the next activation reads is there with it too
@@ -48,7 +48,7 @@ module _ (before : List Activation) (next : Activation) (input : List ℕ) (body
       ∙ gathered-weaker (λ (p : Place). stream_element earlier (stream_source before input p)) (λ (p : Place). stream_element whole (stream_source acts input p)) (λ p v at. element_more before (next ∷ []) input whole p v (element_kept own_number earlier whole earlier_extends.kept (stream_source before input p) v at)) (input_places acts (length before)) elements h
 
   -- its outcome
-  next_ends : (elements : List Elem) → gathered (next_reads before next input earlier) ≡ Some elements → outcome_at whole (length before) ≡ Some (poisoning body (length before) elements)
+  pub next_ends : (elements : List Elem) → gathered (next_reads before next input earlier) ≡ Some elements → outcome_at whole (length before) ≡ Some (poisoning body (length before) elements)
   next_ends elements h =
       outcome_at-meaning stream_element (element_kept own_number) (stream_reads acts input) (poisoning body) (length acts) (length before) (omega (arith, length_acts)) ∙ ap (option_map (poisoning body (length before))) (reads_are_there elements h)
 
