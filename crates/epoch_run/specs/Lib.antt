@@ -6,5 +6,6 @@ pub mod Bodies
 pub mod Held
 pub mod Standing
 pub mod InOrder
+pub mod Sharing
 pub mod Adding
 pub mod NextSpans

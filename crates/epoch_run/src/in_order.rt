@@ -20,8 +20,9 @@ ghost use Rattle.epoch_run.specs.Standing.{HasCreated, StandsAt};
 ghost use Rattle.epoch_run.specs.declared.result.Budgets.{Budgets};
 
 use crate::beside::create;
-use crate::pace::{Pace, most_steps};
+use crate::pace::Pace;
 use crate::result::Budgets;
+use crate::sharing::share_out;
 use crate::standing::Standing;
 use epoch_run_bodies::laws::later_activations_change_nothing;
 use epoch_run_in_order::{HeldInOrder, InOrder};
@@ -30,23 +31,32 @@ use os_code::Code;
 use os_io::{List, Memory};
 use std::alloc::Global;
 use std::mem;
+use std::thread::Threads;
 use task_workers::Gate;
 
 /// How many activations are created before they run.
 const STRETCH: u32 = 256;
 
+/// How many of them run before the others are shared out among several workers.
+const ALONE: usize = 2_048;
+
+/// More than there ever are.
+const MOST: usize = 65_537;
+
 /// Goes on in control order behind activations that all have ended: stretch by stretch, until the control program has ended, or one of a
 /// stretch doesn't find there what it reads, or by several workers the bodies of a stretch are long. What has no end then is left to
 /// the next epoch. It answers how the control program has ended, once it has. After `Memory` the run is to be given up.
-pub(crate) fn run_in_order<G: Gate>(
-    run: &mut Standing<'_>,
+pub(crate) fn run_in_order<'c, R: Threads + Sync, G: Gate>(
+    rt: &R,
+    run: &mut Standing<'c>,
     alloc: Global,
-    code: &Code,
+    code: &'c Code,
     input: &[u8],
     budgets: Budgets,
     workers: u32,
     gate: &G,
 ) -> Result<Option<ControlEnd>, Memory>
+    requires input { length input.now ≤ 4194304 }
     requires budgets { AreBudgets budgets }
     requires stands { StandsAt code.now input.now budgets run.old }
     requires ran { IsHeldOf (parts_of code.now) (given_by run.old.control) input.now budgets.task run.old.held }
@@ -58,7 +68,9 @@ pub(crate) fn run_in_order<G: Gate>(
 {
     later_activations_change_nothing();
     let mut order = begin(run, alloc, code)?;
-    run_stretches(run, &mut order, alloc, code, input, budgets, workers, gate)?;
+    run_on(
+        rt, run, &mut order, alloc, code, input, budgets, workers, gate,
+    )?;
     hold(run, alloc, order)?;
     Ok(run.control.end())
 }
@@ -85,7 +97,45 @@ fn begin(run: &mut Standing<'_>, alloc: Global, code: &Code) -> Result<InOrder, 
     Ok(order)
 }
 
-/// Runs stretch by stretch, as far as that goes.
+/// Runs stretch by stretch, as far as that goes. By several workers what comes behind the first stretches is shared out among them, where that
+/// serves.
+fn run_on<'c, R: Threads + Sync, G: Gate>(
+    rt: &R,
+    run: &mut Standing<'c>,
+    order: &mut InOrder,
+    alloc: Global,
+    code: &'c Code,
+    input: &[u8],
+    budgets: Budgets,
+    workers: u32,
+    gate: &G,
+) -> Result<(), Memory>
+    requires input { length input.now ≤ 4194304 }
+    requires budgets { AreBudgets budgets }
+    requires ran { HaveRunInOrder code.now input.now budgets run.old order.old }
+    ensures goes { OnOk result (GoesInOrder code.now input.now budgets run.new order.new) }
+    ensures grows { OnOk result (run.new.control.has_ended ≡ false → length (given_by run.old.control) < length (given_by run.new.control)) }
+    ensures told { OnOk result (run.new.control.has_ended ≡ true → given_by run.new.control ≡ (whole run.new.control).activations) }
+{
+    if workers == 1 {
+        run_stretches(run, order, alloc, code, input, budgets, workers, gate, MOST)?;
+        return Ok(());
+    }
+    let more = run_stretches(
+        run, order, alloc, code, input, budgets, workers, gate, ALONE,
+    )?;
+    if !more {
+        return Ok(());
+    }
+    let shared = share_out(rt, run, order, alloc, code, input, budgets, workers, gate)?;
+    if !shared {
+        run_stretches(run, order, alloc, code, input, budgets, workers, gate, MOST)?;
+    }
+    Ok(())
+}
+
+/// Runs stretch by stretch, as far as that goes, and at most until so many activations are laid out. It answers whether all so far ran, and more may
+/// come.
 fn run_stretches<G: Gate>(
     run: &mut Standing<'_>,
     order: &mut InOrder,
@@ -95,20 +145,29 @@ fn run_stretches<G: Gate>(
     budgets: Budgets,
     workers: u32,
     gate: &G,
-) -> Result<(), Memory>
+    until: usize,
+) -> Result<bool, Memory>
     requires budgets { AreBudgets budgets }
     requires ran { HaveRunInOrder code.now input.now budgets run.old order.old }
     ensures goes { OnOk result (GoesInOrder code.now input.now budgets run.new order.new) }
     ensures grows { OnOk result (run.new.control.has_ended ≡ false → length (given_by run.old.control) < length (given_by run.new.control)) }
     ensures told { OnOk result (run.new.control.has_ended ≡ true → given_by run.new.control ≡ (whole run.new.control).activations) }
+    ensures all { IfOk result (λ more. IsTrue more → HaveRunInOrder code.now input.now budgets run.new order.new) }
 {
-    'stretches: loop {
+    let goes_on = 'stretches: loop {
         let goes_on = run_stretch(run, order, alloc, code, input, budgets, workers, gate)?;
-        if !goes_on {
-            break 'stretches;
+        if ends_here(goes_on, run.layout.frames(), until) {
+            break 'stretches goes_on;
         }
-    }
-    Ok(())
+    };
+    Ok(goes_on)
+}
+
+/// Whether stretches end with one behind which so many activations are laid out.
+fn ends_here(goes_on: bool, frames: usize, until: usize) -> bool
+    ensures { result ≡ false → goes_on ≡ true }
+{
+    !goes_on || frames >= until
 }
 
 /// Creates a stretch of activations and runs it, as far as that goes. It answers whether all of them ran, and more may come.
@@ -140,7 +199,7 @@ fn run_stretch<G: Gate>(
 }
 
 /// Has the control program create the next activations, and lays them out. Those before them have ended, and their lists are used again.
-fn create_stretch(run: &mut Standing<'_>, alloc: Global) -> Result<(), Memory>
+pub(crate) fn create_stretch(run: &mut Standing<'_>, alloc: Global) -> Result<(), Memory>
     requires laid { IsLayout run.old.layout }
     requires takes { (after : RunSoFar) (added : List Activation) → HasCreated 256 run.old.control after [] added → TakesMore run.old.layout added }
     ensures created { OnOk result (HasCreated 256 run.old.control run.new.control [] run.new.activations) }
@@ -159,7 +218,7 @@ fn create_stretch(run: &mut Standing<'_>, alloc: Global) -> Result<(), Memory>
 
 /// Runs the activations of a stretch, as far as each of them finds there what it reads, and tells how long their bodies were. It
 /// answers whether all of them ran.
-fn run_created<G: Gate>(
+pub(crate) fn run_created<G: Gate>(
     run: &mut Standing<'_>,
     order: &mut InOrder,
     code: &Code,
@@ -182,7 +241,7 @@ fn run_created<G: Gate>(
         &run.layout,
         input,
         budgets.task,
-        most_steps(workers, STRETCH),
+        run.most_steps(workers),
         gate,
     )?;
     run.held.pace = Pace::of(order.steps.saturating_sub(begun), count);

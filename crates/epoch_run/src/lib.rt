@@ -12,7 +12,8 @@
 //! then, all are run by the plan of the whole run, and nothing is carried over.
 //!
 //! Where nobody waits and bodies are short, `run_epochs` goes on in control order instead (`epoch_run_in_order`): activations run one
-//! after the other, with no plan, until one of them doesn't find there what it reads. What ran is then held as after an epoch.
+//! after the other, with no plan, until one of them doesn't find there what it reads. What ran is then held as after an epoch. Several workers
+//! share such a run out: each creates all activations for itself, and runs those from a number on (`epoch_run_shares`).
 #![tactic(auto)]
 
 mod adding;
@@ -30,6 +31,8 @@ mod plan;
 mod putting;
 mod result;
 mod room;
+mod shares;
+mod sharing;
 mod size;
 mod standing;
 mod unended;

@@ -38,6 +38,14 @@ impl Pace {
         }
     }
 
+    /// Whether nothing tells yet.
+    pub(crate) fn is_unknown(self) -> bool {
+        match self {
+            Pace::Steps(_) => false,
+            Pace::Unknown => true,
+        }
+    }
+
     /// Whether they may be: they are, or nothing tells yet.
     pub(crate) fn may_be_short(self) -> bool {
         match self {
@@ -63,11 +71,11 @@ impl Pace {
 
 /// How many steps the bodies of so many activations may take together where these run one after the other: any number by one worker, and by
 /// several what short bodies take.
-pub(crate) fn most_steps(workers: u32, activations: u32) -> u64 {
+pub(crate) fn most_steps(workers: u32, activations: u64) -> u64 {
     if workers == 1 {
         return u64::MAX;
     }
-    u64::from(activations) * TABLE_STEPS
+    activations.saturating_mul(TABLE_STEPS)
 }
 
 /// From how many steps on an average body gains by a table.

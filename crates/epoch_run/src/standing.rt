@@ -19,6 +19,7 @@ use crate::held::Held;
 use crate::in_order::run_in_order;
 use crate::next_spans::NextSpans;
 use crate::open_bodies::OpenBodies;
+use crate::pace::most_steps;
 use crate::result::Budgets;
 use crate::size::EpochSize;
 use crate::way::Way;
@@ -92,7 +93,7 @@ impl<'c> Standing<'c> {
         &mut self,
         rt: &R,
         alloc: Global,
-        code: &Code,
+        code: &'c Code,
         input: &[u8],
         budgets: Budgets,
         workers: u32,
@@ -101,6 +102,7 @@ impl<'c> Standing<'c> {
         way: Way,
     ) -> Result<Option<ControlEnd>, Memory>
         requires workers { (1 ≤ workers) × (workers ≤ 64) }
+        requires input { length input.now ≤ 4194304 }
         requires budgets { AreBudgets budgets }
         requires stands { StandsAt code.now input.now budgets self.old }
         requires some { 1 ≤ size.activations }
@@ -121,11 +123,12 @@ impl<'c> Standing<'c> {
         self.held.without_end.len() == 0 && (workers == 1 || self.held.pace.may_be_short())
     }
 
-    /// Whether nobody waits now, and bodies are short.
+    /// Whether nobody waits now, and bodies are short, or nothing tells yet.
     fn goes_in_order(&self, workers: u32) -> bool
         ensures { IsTrue result → length self.now.held.without_end ≡ 0 }
     {
-        self.held.without_end.len() == 0 && (workers == 1 || self.held.pace.is_short())
+        let may = workers == 1 || self.layout.starts.len() <= 1 || self.held.pace.is_short();
+        self.held.without_end.len() == 0 && may
     }
 
     /// Runs what has no end yet by itself, which tells whether one waits and how long bodies are; and goes on in control order where
@@ -134,7 +137,7 @@ impl<'c> Standing<'c> {
         &mut self,
         rt: &R,
         alloc: Global,
-        code: &Code,
+        code: &'c Code,
         input: &[u8],
         budgets: Budgets,
         workers: u32,
@@ -142,6 +145,7 @@ impl<'c> Standing<'c> {
         size: EpochSize,
     ) -> Result<Option<ControlEnd>, Memory>
         requires workers { (1 ≤ workers) × (workers ≤ 64) }
+        requires input { length input.now ≤ 4194304 }
         requires budgets { AreBudgets budgets }
         requires stands { StandsAt code.now input.now budgets self.old }
         requires some { 1 ≤ size.activations }
@@ -152,7 +156,7 @@ impl<'c> Standing<'c> {
     {
         self.run(rt, alloc, code, input, budgets, workers, gate)?;
         if self.goes_in_order(workers) {
-            return run_in_order(self, alloc, code, input, budgets, workers, gate);
+            return run_in_order(rt, self, alloc, code, input, budgets, workers, gate);
         }
         self.go_on_in_epochs(rt, alloc, code, input, budgets, workers, gate, size)
     }
@@ -264,6 +268,15 @@ impl<'c> Standing<'c> {
         )?;
         add(alloc, &mut self.activations, &mut self.layout, next, laid)?;
         Ok(())
+    }
+
+    /// How many steps the bodies of the list may take together where they run one after the other. Where nothing tells yet how long bodies are and
+    /// the control program has ended, there are few of them, which may be long: then it is none.
+    pub(crate) fn most_steps(&self, workers: u32) -> u64 {
+        if workers > 1 && self.control.end().is_some() && self.held.pace.is_unknown() {
+            return 0;
+        }
+        most_steps(workers, self.activations.len() as u64)
     }
 
     /// Whether some of the activations are new.

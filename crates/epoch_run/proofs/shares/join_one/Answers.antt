@@ -1,0 +1,10 @@
+use Rattle.std.proofs.Common.{◌≡◌, length, arith}
+use Rattle.os_code.specs.Codes.{parts_of}
+use Rattle.epoch_run.specs.Run.{created}
+use Rattle.epoch_run.proofs.SharedOut.{joined}
+use Rattle.epoch_run.proofs.shares.join_one.Goals as goal
+
+pub returns : goal.returns
+returns c = λ code input budgets ready_apart share ran.
+    joined code input budgets c.args.order.now c.join.new.self c.args.apart.now ready_apart share ran (omega (arith, c.if-first-ran.false, c.len-ran.ensures)) (c.in_ok-join.ensures.ready code) c.in_ok-join.ensures.count
+    (λ before. c.in_ok-join.ensures.stands (parts_of code) (created (parts_of code) input budgets) before input budgets.task)

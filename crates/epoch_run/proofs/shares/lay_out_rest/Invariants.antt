@@ -1,0 +1,16 @@
+use Rattle.std.proofs.Common.{◌≡◌, ◌≤◌, ◌-◌, ℕ, List, length}
+use Rattle.control_run.specs.Stretches.{given_by}
+use Rattle.os_code.specs.declared.code.Code.{Code}
+use Rattle.epoch_run.specs.InOrder.{AreLaidOut}
+use Rattle.epoch_run.specs.Sharing.{IsLaidOut}
+use Rattle.epoch_run.specs.declared.result.Budgets.{Budgets}
+use Rattle.epoch_run.proofs.shares.lay_out_rest.Given as goal
+
+abbrev pub invariant-stretches : goal.invariant-stretches
+invariant-stretches l = record {
+  laid : IsLaidOut l.run.control l.run.layout;
+  keeps : (code : Code) (input : List ℕ) (budgets : Budgets) → AreLaidOut code input budgets l.fn.run.control l.fn.run.layout → AreLaidOut code input budgets l.run.control l.run.layout;
+}
+
+abbrev pub decreases-stretches : goal.decreases-stretches
+decreases-stretches l = 65536 - length (given_by l.run.control)

@@ -1,0 +1,15 @@
+use Rattle.epoch_run.proofs.SharedOut.{first_ones_ran, shared_out}
+use Rattle.epoch_run.proofs.shares.lead.Goals as goal
+
+pub lay_out_rest-requires : goal.lay_out_rest-requires
+lay_out_rest-requires c = record { laid = record { code = c.args.code.now; input = c.args.input.now; budgets = c.args.budgets; are = c.requires.ran.goes.laid_out } }
+
+pub returns : goal.returns
+returns c =
+    let e = c.in_ok-lay_out_rest.ensures in
+    record {
+      shared = shared_out c.args.code.now c.args.input.now c.args.budgets c.lay_out_rest.new.run.control c.lay_out_rest.new.run.layout c.join_one.new.order
+          (e.laid c.args.code.now c.args.input.now c.args.budgets c.requires.ran.goes.laid_out) e.ended e.told
+          (c.in_ok-join_one.ensures c.args.code.now c.args.input.now c.args.budgets c.in_ok-apart.ensures.ready c.in_ok-apart.ensures.share
+          (first_ones_ran c.args.code.now c.args.input.now c.args.budgets c.args.run.now c.args.order.now c.requires.ran));
+    }

@@ -1,0 +1,236 @@
+//! The shares of a run, each of which a thread runs.
+
+ghost use Rattle.std.specs.Prelude.{◌≡◌, ◌≤◌, ℕ, List, true, IfOk, IfSome, OnOk, length};
+ghost use denote.Param.Send.{IsSync};
+ghost use Rattle.control_run.specs.Stretches.{given_by, whole};
+ghost use Rattle.os_code.specs.Codes.{parts_of};
+ghost use Rattle.os_code.specs.declared.code.Code.{Code};
+ghost use Rattle.epoch_run_in_order.specs.Standing.{IsReady};
+ghost use Rattle.epoch_run_shares.specs.Share.{IsShare};
+ghost use Rattle.epoch_run.specs.InOrder.{AreLaidOut, HaveRunInOrder};
+ghost use Rattle.epoch_run.specs.Run.{AreBudgets};
+ghost use Rattle.epoch_run.specs.Sharing.{AreSharedOut, FirstOnesRan, IsLaidOut};
+ghost use Rattle.epoch_run.specs.declared.result.Budgets.{Budgets};
+
+use crate::in_order::create_stretch;
+use crate::result::Budgets;
+use crate::standing::Standing;
+use epoch_run_in_order::{Apart, InOrder};
+use epoch_run_shares::run_share;
+use os_code::Code;
+use os_io::Memory;
+use std::alloc::Global;
+use std::thread::{Threads, join_mut};
+
+/// How many activations a run has at most.
+const LIMIT: u32 = 65_536;
+
+/// How many shares a run is given out in at most: a share costs its thread the creation of all activations before it.
+const MOST_SHARES: u32 = 8;
+
+/// How many activations a share runs beyond its end: those of the next one may have to begin a few later, where they need something of each other.
+const OVERLAP: u32 = 64;
+
+/// Where the shares of a run begin. The first one is smaller than the others, since the control program and the positions of all are worked out
+/// by the same worker.
+#[derive(Clone, Copy)]
+pub(crate) struct Shares {
+    first: u32,
+    count: u32,
+}
+
+impl Shares {
+    /// The shares of so many workers from a number on.
+    pub(crate) fn from(first: u32, workers: u32) -> Shares {
+        Shares {
+            first,
+            count: workers.min(MOST_SHARES),
+        }
+    }
+
+    /// The number of the last one.
+    pub(crate) fn last(self) -> u32 {
+        self.count.saturating_sub(1)
+    }
+
+    /// The number of the first activation of a share.
+    fn begin(self, number: u32) -> u32 {
+        if number == 0 {
+            return self.first;
+        }
+        let all = LIMIT.saturating_sub(self.first);
+        let led = all / self.count.max(1) / 8 * 5;
+        let each = (all - led) / self.count.saturating_sub(1).max(1);
+        self.first
+            .saturating_add(led)
+            .saturating_add(each.saturating_mul(number - 1))
+    }
+
+    /// The number of the activation before which it ends.
+    fn end(self, number: u32) -> u32 {
+        if number >= self.last() {
+            return LIMIT;
+        }
+        self.begin(number + 1).saturating_add(OVERLAP)
+    }
+}
+
+/// Runs the shares up to a number, each by a thread of its own, but for the first one, which this one runs: it has the control program create all
+/// activations, and lays them out. What ran is put behind those that had run before. After `Memory` the run is to be given up.
+pub(crate) fn run_shares<R: Threads + Sync>(
+    rt: &R,
+    run: &mut Standing<'_>,
+    order: &mut InOrder,
+    alloc: Global,
+    code: &Code,
+    input: &[u8],
+    budgets: Budgets,
+    shares: Shares,
+    number: u32,
+) -> Result<(), Memory>
+    requires input { length input.now ≤ 4194304 }
+    requires budgets { AreBudgets budgets }
+    requires ran { HaveRunInOrder code.now input.now budgets run.old order.old }
+    ensures shared { OnOk result (AreSharedOut code.now input.now budgets run.new.control run.new.layout order.new) }
+{
+    if number == 0 {
+        return lead(run, order, alloc, code, input, budgets, shares);
+    }
+    let mut share: Option<Apart> = None;
+    let mut own = || -> Result<(), Memory>
+        requires { (length input.now ≤ 4194304) × AreBudgets budgets }
+        ensures { OnOk result (IfSome share.exit (λ apart. IsReady code.entry.now apart.order
+            × IsShare (parts_of code.entry.now) input.entry.now budgets.control budgets.task apart)) }
+    { set_share(alloc, code, input, budgets, shares, number, &mut share) };
+    let mut others = || -> Result<(), Memory>
+        requires { IsSync R.row × (1 ≤ number) × (length input.now ≤ 4194304) × AreBudgets budgets × HaveRunInOrder code.now input.now budgets run.now order.now }
+        ensures { OnOk result (AreSharedOut code.entry.now input.entry.now budgets run.exit.now.control run.exit.now.layout order.exit.now) }
+    {
+        run_shares(
+            rt,
+            run,
+            order,
+            alloc,
+            code,
+            input,
+            budgets,
+            shares,
+            number - 1,
+        )
+    };
+    let (ran, led) = join_mut(rt, &mut own, &mut others);
+    led?;
+    ran?;
+    join_some(order, share)?;
+    Ok(())
+}
+
+/// Runs a share, and puts it into a place.
+fn set_share(
+    alloc: Global,
+    code: &Code,
+    input: &[u8],
+    budgets: Budgets,
+    shares: Shares,
+    number: u32,
+    share: &mut Option<Apart>,
+) -> Result<(), Memory>
+    requires input { length input.now ≤ 4194304 }
+    requires budgets { AreBudgets budgets }
+    ensures share { OnOk result (IfSome share.new (λ apart. IsReady code.now apart.order
+        × IsShare (parts_of code.now) input.now budgets.control budgets.task apart)) }
+{
+    let apart = run_numbered(alloc, code, input, budgets, shares, number)?;
+    *share = Some(apart);
+    Ok(())
+}
+
+/// Runs the share of a number.
+fn run_numbered(
+    alloc: Global,
+    code: &Code,
+    input: &[u8],
+    budgets: Budgets,
+    shares: Shares,
+    number: u32,
+) -> Result<Apart, Memory>
+    requires input { length input.now ≤ 4194304 }
+    requires budgets { AreBudgets budgets }
+    ensures ready { IfOk result (λ apart. IsReady code.now apart.order) }
+    ensures share { IfOk result (λ apart. IsShare (parts_of code.now) input.now budgets.control budgets.task apart) }
+{
+    run_share(
+        alloc,
+        code,
+        input,
+        budgets.control,
+        budgets.task,
+        shares.begin(number),
+        shares.end(number),
+    )
+}
+
+/// Has the control program create all activations, lays them out, and runs the first share.
+fn lead(
+    run: &mut Standing<'_>,
+    order: &mut InOrder,
+    alloc: Global,
+    code: &Code,
+    input: &[u8],
+    budgets: Budgets,
+    shares: Shares,
+) -> Result<(), Memory>
+    requires input { length input.now ≤ 4194304 }
+    requires budgets { AreBudgets budgets }
+    requires ran { HaveRunInOrder code.now input.now budgets run.old order.old }
+    ensures shared { OnOk result (AreSharedOut code.now input.now budgets run.new.control run.new.layout order.new) }
+{
+    lay_out_rest(run, alloc)?;
+    let apart = run_numbered(alloc, code, input, budgets, shares, 0)?;
+    join_one(order, &apart)?;
+    Ok(())
+}
+
+/// Has the control program create the activations that remain, and lays them out.
+fn lay_out_rest(run: &mut Standing<'_>, alloc: Global) -> Result<(), Memory>
+    requires laid { IsLaidOut run.old.control run.old.layout }
+    ensures laid { OnOk result ((code : Code) (input : List ℕ) (budgets : Budgets) → AreLaidOut code input budgets run.old.control run.old.layout
+        → AreLaidOut code input budgets run.new.control run.new.layout) }
+    ensures ended { OnOk result (run.new.control.has_ended ≡ true) }
+    ensures told { OnOk result (given_by run.new.control ≡ (whole run.new.control).activations) }
+{
+    'stretches: loop {
+        create_stretch(run, alloc)?;
+        if run.control.end().is_some() {
+            break 'stretches;
+        }
+    }
+    Ok(())
+}
+
+/// Puts a share behind those that ran, if it is there.
+fn join_some(order: &mut InOrder, share: Option<Apart>) -> Result<(), Memory>
+    ensures { OnOk result ((code : Code) (input : List ℕ) (budgets : Budgets)
+        → IfSome share (λ apart. IsReady code apart.order × IsShare (parts_of code) input budgets.control budgets.task apart)
+        → FirstOnesRan code input budgets order.old → FirstOnesRan code input budgets order.new) }
+{
+    match share {
+        Some(apart) => join_one(order, &apart),
+        None => Ok(()),
+    }
+}
+
+/// Puts a share behind those that ran, if it goes on where these end.
+fn join_one(order: &mut InOrder, apart: &Apart) -> Result<(), Memory>
+    ensures { OnOk result ((code : Code) (input : List ℕ) (budgets : Budgets) → IsReady code apart.now.order
+        → IsShare (parts_of code) input budgets.control budgets.task apart.now
+        → FirstOnesRan code input budgets order.old → FirstOnesRan code input budgets order.new) }
+{
+    let ran = order.ends.len();
+    let first = apart.first as usize;
+    if first > ran || first.saturating_add(apart.order.ends.len()) < ran {
+        return Ok(());
+    }
+    order.join(apart)?;
+    Ok(())
+}

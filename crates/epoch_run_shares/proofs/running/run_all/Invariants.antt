@@ -1,0 +1,12 @@
+use Rattle.std.proofs.Common.{List, ◌++◌, take}
+use Rattle.flow_core_laws.specs.declared.activation.Activation.{Activation}
+use Rattle.epoch_run_shares.specs.Positions.{HavePassed}
+use Rattle.epoch_run_shares.specs.Running.{HaveRun}
+use Rattle.epoch_run_shares.proofs.running.run_all.Given as goal
+
+-- so many of them have run
+abbrev pub invariant-loop-activation : goal.invariant-loop-activation
+invariant-loop-activation l = record {
+  ran : HaveRun l.code (take l.activation-index l.activations) l.input l.budget l.fn.positions l.fn.apart l.apart;
+  passed : (before : List Activation) → HavePassed l.code.streams before l.fn.positions → HavePassed l.code.streams (before ++ take l.activation-index l.activations) l.positions;
+}

@@ -1,0 +1,116 @@
+//! The positions behind activations that were passed.
+
+ghost use Rattle.std.specs.Prelude.{◌≡◌, ◌∷◌, ◌++◌, ◌<◌, ℕ, [], IfOk, List, OnOk, length, map, slice_set};
+ghost use Rattle.flow_core_laws.specs.Window.{windows_of};
+ghost use Rattle.flow_core_laws.specs.declared.activation.Activation.{Activation};
+ghost use Rattle.stream_match_layouts.specs.Layout.{span_of};
+ghost use Rattle.epoch_run_shares.specs.Positions.{HasCursors, HasTaken, HavePassed, PassMore};
+
+use flow_core_laws::{Activation, Claim};
+use os_io::{List, Memory};
+use std::alloc::Global;
+use stream_match_layouts::Span;
+
+/// Where the streams stand behind activations that were passed, and the windows of the last of these. It holds nothing of the ones before.
+#[derive(Drop)]
+pub(crate) struct Positions {
+    /// A span for each claim of the activation that was passed last.
+    pub spans: Vec<Span>,
+    /// The read cursor of each stream.
+    pub reads: List<u64>,
+    /// The write cursor of each stream.
+    pub writes: List<u64>,
+    /// How many activations were passed.
+    pub count: u32,
+}
+
+impl Positions {
+    /// Before the first activation, over so many streams.
+    pub(crate) fn new(alloc: Global, streams: u32) -> Result<Positions, Memory>
+        ensures { IfOk result (HavePassed streams []) }
+    {
+        let mut positions = Positions {
+            spans: Vec::new(alloc),
+            reads: List::with_capacity(alloc, streams as usize)?,
+            writes: List::with_capacity(alloc, streams as usize)?,
+            count: 0,
+        };
+        for _ in 0..streams {
+            positions.reads.push(0)?;
+            positions.writes.push(0)?;
+        }
+        Ok(positions)
+    }
+
+    /// Passes the next activations, one by one. After `Memory` it may hold anything, and is to be given up.
+    pub(crate) fn pass_all(&mut self, activations: &[Activation]) -> Result<(), Memory>
+        requires { PassMore self.old activations.now }
+        ensures { OnOk result ((streams : ℕ) (passed : List Activation) → HavePassed streams passed self.old
+            → HavePassed streams (passed ++ activations.now) self.new) }
+    {
+        for activation in activations {
+            self.pass(activation)?;
+        }
+        Ok(())
+    }
+
+    /// Passes the next activation: the cursors move behind it, and its spans are there. After `Memory` it may hold anything, and is to be
+    /// given up.
+    pub(crate) fn pass(&mut self, activation: &Activation) -> Result<(), Memory>
+        requires { PassMore self.old (activation.now ∷ []) }
+        ensures passed { OnOk result ((streams : ℕ) (passed : List Activation) → HavePassed streams passed self.old
+            → HavePassed streams (passed ++ activation.now ∷ []) self.new) }
+        ensures spans { OnOk result ((streams : ℕ) (passed : List Activation) → HavePassed streams passed self.old
+            → self.new.spans.items ≡ map span_of (windows_of (passed ++ activation.now ∷ []) (length passed))) }
+    {
+        let frame = self.count as u16;
+        let mut inputs = 0;
+        let mut outputs = 0;
+        self.spans.clear();
+        for claim in activation.claims.as_slice() {
+            if claim.write {
+                self.take(frame, claim, outputs)?;
+                outputs += claim.horizon;
+            } else {
+                self.take(frame, claim, inputs)?;
+                inputs += claim.horizon;
+            }
+        }
+        self.count += 1;
+        Ok(())
+    }
+
+    /// Adds a claim of an activation, where its windows before this one take so many inputs or outputs.
+    fn take(&mut self, frame: u16, claim: &Claim, offset: u32) -> Result<(), Memory>
+        requires { HasCursors self.old claim.now }
+        ensures { OnOk result (HasTaken self.old frame claim.now offset self.new) }
+    {
+        let stream = claim.stream as usize;
+        let first = if claim.write {
+            let first = self.writes.as_slice()[stream];
+            set(&mut self.writes, stream, first + u64::from(claim.horizon));
+            first
+        } else {
+            let first = self.reads.as_slice()[stream] + claim.skip;
+            set(&mut self.reads, stream, first + u64::from(claim.burst));
+            first
+        };
+        self.spans.push(Span {
+            first,
+            count: claim.horizon,
+            offset,
+            stream: claim.stream,
+            frame,
+            write: claim.write,
+        })?;
+        Ok(())
+    }
+}
+
+/// Sets a cursor.
+fn set(cursors: &mut List<u64>, stream: usize, cursor: u64)
+    requires { stream < length cursors.old }
+    ensures { cursors.new ≡ slice_set cursors.old stream cursor }
+{
+    cursors.as_mut_slice()[stream] = cursor;
+}
