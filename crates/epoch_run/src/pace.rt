@@ -9,6 +9,10 @@ const TABLE_STEPS: u64 = 1_000;
 /// What it costs a cell.
 const CELL_STEPS: u64 = 80;
 
+/// How many steps an average body has to take for each worker but one, of four at most, for a run in control order to be shared out: each of them
+/// creates the activations before its own as well.
+const SHARE_STEPS: u64 = 384;
+
 /// How many steps are worth a thread.
 const THREAD_STEPS: u64 = 65_536;
 
@@ -43,6 +47,17 @@ impl Pace {
         match self {
             Pace::Steps(_) => false,
             Pace::Unknown => true,
+        }
+    }
+
+    /// Whether they are so long that so many workers gain by sharing a run out.
+    pub(crate) fn is_worth_shares(self, workers: u32) -> bool {
+        match self {
+            Pace::Steps(steps) => {
+                let others = workers.min(4).saturating_sub(1);
+                steps.saturating_mul(u64::from(others)) >= SHARE_STEPS
+            }
+            Pace::Unknown => false,
         }
     }
 

@@ -59,7 +59,7 @@ impl Shares {
             return self.first;
         }
         let all = LIMIT.saturating_sub(self.first);
-        let led = all / self.count.max(1) / 8 * 5;
+        let led = all / self.count.max(1) / 2;
         let each = (all - led) / self.count.saturating_sub(1).max(1);
         self.first
             .saturating_add(led)

@@ -25,8 +25,8 @@ const TRIED: u32 = 256;
 /// More activations than there ever are.
 const MOST: u32 = 65_537;
 
-/// Shares the activations that haven't run out among several workers, where those that come next can be run apart from those before them, and runs
-/// what is left then. It answers whether it did; else the run is as it was. After `Memory` the run is to be given up.
+/// Shares the activations that haven't run out among several workers, where bodies are long enough for that and those that come next can be run
+/// apart from those before them, and runs what is left then. It answers whether it did; else the run is as it was. After `Memory` the run is to be given up.
 pub(crate) fn share_out<'c, R: Threads + Sync, G: Gate>(
     rt: &R,
     run: &mut Standing<'c>,
@@ -46,6 +46,9 @@ pub(crate) fn share_out<'c, R: Threads + Sync, G: Gate>(
     ensures ended { IfOk result (λ shared. shared ≡ true → run.new.control.has_ended ≡ true) }
     ensures told { IfOk result (λ shared. shared ≡ true → given_by run.new.control ≡ (whole run.new.control).activations) }
 {
+    if !run.held.pace.is_worth_shares(workers) {
+        return Ok(false);
+    }
     let first = order.ends.len() as u32;
     let apart = runs_apart(alloc, code, input, budgets, first)?;
     if !apart {
