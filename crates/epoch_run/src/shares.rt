@@ -40,10 +40,11 @@ pub(crate) struct Shares {
 }
 
 impl Shares {
-    /// The shares of so many workers from a number on.
-    pub(crate) fn from(first: u32, workers: u32) -> Shares {
+    /// The shares of so many workers behind so many activations that ran: the first one begins before these end, since it may have to begin a few
+    /// later.
+    pub(crate) fn behind(ran: u32, workers: u32) -> Shares {
         Shares {
-            first,
+            first: ran.saturating_sub(OVERLAP),
             count: workers.min(MOST_SHARES),
         }
     }

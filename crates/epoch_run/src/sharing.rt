@@ -54,7 +54,7 @@ pub(crate) fn share_out<'c, R: Threads + Sync, G: Gate>(
     if !apart {
         return Ok(false);
     }
-    let shares = Shares::from(first, workers);
+    let shares = Shares::behind(first, workers);
     run_shares(
         rt,
         run,

@@ -1,0 +1,180 @@
+//! Runs in control order that several workers share out.
+
+use crate::compiled::compiled;
+use crate::lengths::are_same;
+use epoch_run::{Budgets, RunResult, run_epochs};
+use os_code::Code;
+use std::alloc::Global;
+use std::process::Abort;
+use std::sync::atomic::{AtomicU32, Ordering};
+use std::test::Fail;
+use std::thread::Threads;
+use task_workers::{Gate, NoGate};
+
+/// 18,000 activations of which each second one reads what the one before it wrote, and nothing else reads anything. One traps, one never ends, and
+/// poison goes on to those that read it.
+const PAIRS: &str = r"int main(void) {
+    int s __attribute__((stream));
+    int i, x, y, z;
+    for (i = 0; i < 9000; i++) {
+        #pragma omp task output(s << x)
+        {
+            int k;
+            x = 1 / (i - 6500);
+            for (k = 0; k < 20; k++) x = (x * 5 + i) & 255;
+            while (i == 7500) ;
+        }
+        #pragma omp task input(s >> y) output(osout << z)
+        {
+            int k;
+            z = y;
+            for (k = 0; k < 20; k++) z = (z * 3 + k) & 255;
+        }
+    }
+}
+";
+
+/// As many, in threes: no power of two is a border between them.
+const THREES: &str = r"int main(void) {
+    int s __attribute__((stream)), t __attribute__((stream));
+    int i, x, y, z;
+    for (i = 0; i < 6000; i++) {
+        #pragma omp task output(s << x)
+        {
+            int k;
+            x = i;
+            for (k = 0; k < 20; k++) x = (x * 5 + k) & 255;
+        }
+        #pragma omp task input(s >> x) output(t << y)
+        {
+            int k;
+            y = x;
+            for (k = 0; k < 20; k++) y = (y * 7 + k) & 255;
+        }
+        #pragma omp task input(t >> y) output(osout << z)
+        {
+            int k;
+            z = y;
+            for (k = 0; k < 20; k++) z = (z * 3 + k) & 255;
+        }
+    }
+}
+";
+
+/// The first 12,000 read nothing, and of the others each reads what the one before it wrote, so that no share can begin among these.
+const CHAINED: &str = r"int main(void) {
+    int s __attribute__((stream));
+    int i, x, y, z;
+    for (i = 0; i < 12000; i++) {
+        #pragma omp task output(osout << z)
+        {
+            int k;
+            z = i;
+            for (k = 0; k < 20; k++) z = (z * 3 + k) & 255;
+        }
+    }
+    #pragma omp task output(s << y)
+    y = 1;
+    for (i = 0; i < 3000; i++) {
+        #pragma omp task input(s >> x) output(s << y, osout << z)
+        {
+            y = (x * 5 + i) & 255;
+            z = y;
+        }
+    }
+}
+";
+
+/// Each reads what the one before it wrote, from the first one on: nothing is shared out.
+const CHAIN: &str = r"int main(void) {
+    int s __attribute__((stream));
+    int i, x, y, z;
+    #pragma omp task output(s << y)
+    y = 1;
+    for (i = 0; i < 5000; i++) {
+        #pragma omp task input(s >> x) output(s << y, osout << z)
+        {
+            int k;
+            y = x;
+            for (k = 0; k < 20; k++) y = (y * 5 + i) & 255;
+            z = y;
+        }
+    }
+}
+";
+
+/// A program with the turns of `main`, and how many activations of it are run by one thread at least and at most.
+type Case = (&'static str, u64, u32, u32);
+
+/// The first 2,048 run alone. `main` of the second one has turns for 4,000 of its loops.
+const CASES: [Case; 5] = [
+    (PAIRS, 1_000_000, 2_048, 3_000),
+    (PAIRS, 7_000, 2_048, 3_000),
+    (THREES, 1_000_000, 2_048, 3_000),
+    (CHAINED, 1_000_000, 5_048, 6_000),
+    (CHAIN, 1_000_000, 5_001, 5_001),
+];
+
+/// How often a thread passed it that runs activations one after the other.
+#[derive(Drop)]
+struct Calls {
+    count: AtomicU32,
+}
+
+impl Gate for Calls {
+    fn at(&self, _worker: u32, _frame: u32) {
+        self.count.fetch_add(1, Ordering::SeqCst);
+    }
+}
+
+/// A run by so many workers.
+fn run<R: Threads + Sync, G: Gate>(
+    rt: &R,
+    alloc: Global,
+    code: &Code,
+    control: u64,
+    workers: u32,
+    gate: &G,
+) -> Option<RunResult>
+    requires workers { (1 ≤ workers) × (workers ≤ 64) }
+    requires budget { control ≤ 1000000 }
+{
+    let budgets = Budgets {
+        task: 1_000,
+        control,
+    };
+    run_epochs(rt, alloc, code, &[], budgets, workers, gate).ok()
+}
+
+/// Whether a program comes to the same by four workers as by one, and how many activations one thread ran of these.
+fn shared<R: Threads + Sync>(
+    rt: &R,
+    alloc: Global,
+    code: &Code,
+    control: u64,
+) -> Option<(bool, u32)>
+    requires { control ≤ 1000000 }
+{
+    let alone = run(rt, alloc, code, control, 1, &NoGate)?;
+    let calls = Calls {
+        count: AtomicU32::new(0),
+    };
+    let run = run(rt, alloc, code, control, 4, &calls)?;
+    Some((are_same(&run, &alone), calls.count.load(Ordering::SeqCst)))
+}
+
+#[test]
+fn shares_come_to_what_one_worker_comes_to(rt: HostRuntime) -> Result<(), Fail> {
+    for (text, control, least, most) in CASES {
+        assert!(rt; control <= 1_000_000);
+        let Some(code) = compiled(&rt, rt.alloc(), text) else {
+            return Err(Fail::from("a program"));
+        };
+        let Some((same, calls)) = shared(&rt, rt.alloc(), &code, control) else {
+            return Err(Fail::from("ample memory"));
+        };
+        assert!(rt; same, "{text}");
+        assert!(rt; least <= calls && calls <= most, "{calls} of {text}");
+    }
+    Ok(())
+}
