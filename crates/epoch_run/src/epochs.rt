@@ -27,8 +27,8 @@ use task_workers::Gate;
 /// them doesn't find there what it reads. Several workers share such a run out.
 ///
 /// The gate is called as in `execute`, with the number of a frame in its epoch, and in control order with worker 0 and the number of an
-/// activation in its stretch; of activations that a share runs it isn't told. The activations, their positions, their ends and the output are held of the whole run, a plan and its cells
-/// of one epoch at a time.
+/// activation in its stretch; of activations that a share runs it isn't told. The activations, their positions, their ends and the output are
+/// held of the whole run, a plan and its cells of one epoch at a time.
 pub fn run_epochs<R: Threads + Sync, G: Gate>(
     rt: &R,
     alloc: Global,
