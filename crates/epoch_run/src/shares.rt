@@ -104,7 +104,8 @@ pub(crate) fn run_shares<R: Threads + Sync>(
             × IsShare (parts_of code.entry.now) input.entry.now budgets.control budgets.task apart)) }
     { set_share(alloc, code, input, budgets, shares, number, &mut share) };
     let mut others = || -> Result<(), Memory>
-        requires { IsSync R.row × (1 ≤ number) × (length input.now ≤ 4194304) × AreBudgets budgets × HaveRunInOrder code.now input.now budgets run.now order.now }
+        requires { IsSync R.row × (1 ≤ number) × (length input.now ≤ 4194304) × AreBudgets budgets
+            × HaveRunInOrder code.now input.now budgets run.now order.now }
         ensures { OnOk result (AreSharedOut code.entry.now input.entry.now budgets run.exit.now.control run.exit.now.layout order.exit.now) }
     {
         run_shares(

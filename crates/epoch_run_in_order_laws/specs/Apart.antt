@@ -12,7 +12,8 @@ HaveEndedFrom from state = All IsSome (drop from state)
 
 -- Lists, one a stream, hold what the activations from a number on wrote to the streams, in a state: each from the position on where the
 -- first of them would write. All of it is there. The list of the input, which is stream 0, says nothing.
-pub record HoldWritten (from : ℕ) (activations : List Activation) (input : List ℕ) (state : State) (elements : List (List (Option Elem))) (firsts : List ℕ) : Type 0 where
+pub record HoldWritten (from : ℕ) (activations : List Activation) (input : List ℕ) (state : State) (elements : List (List (Option Elem)))
+    (firsts : List ℕ) : Type 0 where
   pub as_many : length firsts ≡ length elements
   pub firsts_are : (stream : ℕ) → stream < length elements → slice_index firsts stream ≡ written_count (take from activations) stream
   pub are_theirs : (stream : ℕ) → 1 ≤ stream → stream < length elements

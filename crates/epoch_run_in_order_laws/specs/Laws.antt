@@ -1,5 +1,6 @@
 -- The laws of runs in control order, as statements.
-use Rattle.std.specs.Prelude.{◌≡◌, ℕ, ℤ, ◌+◌, ◌-◌, ◌<◌, ◌≤◌, List, [], ◌∷◌, ◌++◌, Option, Some, IsSome, All, drop, map, length, min, slice_index, slice_index_or, take}
+use Rattle.std.specs.Prelude.{◌≡◌, ℕ, ℤ, ◌+◌, ◌-◌, ◌<◌, ◌≤◌, List, [], ◌∷◌, ◌++◌, Option, Some, IsSome, All}
+use Rattle.std.specs.Prelude.{drop, map, length, min, slice_index, slice_index_or, take}
 use Rattle.flow_core_laws.specs.declared.activation.Activation.{Activation}
 use Rattle.flow_core_laws.specs.declared.claim.Claim.{Claim}
 use Rattle.flow_core_laws.specs.declared.elem.Elem.{Elem}
@@ -84,7 +85,8 @@ WrittenGrow =
     → HoldWritten from (before ++ next ∷ []) input (stream_meaning (before ++ next ∷ []) input body) more firsts
 
 -- All activations so far have ended, the first ones as before, and the streams hold what all of them wrote.
-pub record AreJoined (first_ones activations : List Activation) (input : List ℕ) (body : ℕ → List ℤ → Outcome) (joined : List (List (Option Elem))) (firsts : List ℕ) : Type 0 where
+pub record AreJoined (first_ones activations : List Activation) (input : List ℕ) (body : ℕ → List ℤ → Outcome)
+    (joined : List (List (Option Elem))) (firsts : List ℕ) : Type 0 where
   pub have_ended : HaveAllEnded (stream_meaning activations input body)
   pub ends_are : ends_of (stream_meaning activations input body)
       ≡ ends_of (stream_meaning first_ones input body) ++ drop (length first_ones) (ends_of (stream_meaning activations input body))
