@@ -212,6 +212,43 @@ for codec in smooth bank wavelet adpcm; do
     done
 done
 
+# So does a run of 24,000 activations that workers share out: three a turn of the loop, of which one reads what the one before it wrote, and one
+# that traps and poisons two others.
+cat >threes.c <<'END'
+int main(void) {
+    int s __attribute__((stream)), t __attribute__((stream));
+    int i, x, y, z;
+    for (i = 0; i < 8000; i++) {
+        #pragma omp task input(osin >> z) output(s << x)
+        {
+            int k;
+            x = z + 0 / (i - 6000);
+            for (k = 0; k < 20; k++) x = (x * 5 + k) & 255;
+        }
+        #pragma omp task input(s >> x) output(t << y)
+        {
+            int k;
+            y = x;
+            for (k = 0; k < 20; k++) y = (y * 7 + k) & 255;
+        }
+        #pragma omp task input(t >> y) output(osout << z)
+        {
+            int k;
+            z = y;
+            for (k = 0; k < 20; k++) z = (z * 3 + k) & 255;
+        }
+    }
+}
+END
+bytes 8000 'x / 65536 % 256' >threes.in
+run run threes.c threes.in --workers 1
+mv out alone.bin
+for workers in 2 3 4 8 64; do
+    run run threes.c threes.in --workers "$workers"
+    agree "threes by $workers workers" 1 alone.bin \
+        "trapped 18000 code 2 line 8 / poisoned 18001 by 18000 / poisoned 18002 by 18000 / control done / output 6000 of 8000"
+done
+
 # As many activations as a run may have, and a megabyte in blocks of 64.
 head -c 65536 /dev/zero >zeros.bin
 head -c 65538 /dev/zero >more.bin
