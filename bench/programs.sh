@@ -85,6 +85,35 @@ int main(void) {
     }
 }
 END
+cat >mixing.c <<'END'
+int main(void) {
+    int mid __attribute__((stream));
+    int i;
+    for (i = 0; i + 1 < osin_len; i += 2) {
+        int a[2], m[2], q[2], o[2];
+        #pragma omp task input(osin >> a[2]) output(mid << m[2])
+        {
+            int k, x = a[0], y = a[1];
+            for (k = 0; k < 16; k++) {
+                x = (x * 5 + y) & 255;
+                y = (y + (x >> 3)) & 255;
+            }
+            m[0] = x;
+            m[1] = y;
+        }
+        #pragma omp task input(mid >> q[2]) output(osout << o[2])
+        {
+            int k, x = q[0], y = q[1];
+            for (k = 0; k < 16; k++) {
+                x = (x * 3 + y) & 255;
+                y = (y + (x >> 2)) & 255;
+            }
+            o[0] = x;
+            o[1] = y;
+        }
+    }
+}
+END
 cat >chain.c <<'END'
 int main(void) {
     int s __attribute__((stream));
@@ -108,6 +137,7 @@ for _ in $(seq 256); do cat part; done >invert.in
 cp invert.in wavelet.in
 head -c 65536 lift.in >chain.in
 cp chain.in pipeline.in
+cp chain.in mixing.in
 { cat chain.in; head -c 2 part; } >overlap.in
 
 # The same work in C.
@@ -170,7 +200,24 @@ static void scale(const int *mid, unsigned char *out) {
     out[1] = (mid[1] / 4) & 255;
 }
 
-/* The tasks of a pipeline and of a chain, of which each waits for another one. */
+/* An activation of a pipeline whose tasks take sixteen turns of a loop. */
+static void mix(int x, int y, int factor, int shift, int *out) {
+    for (int k = 0; k < 16; k++) {
+        x = (x * factor + y) & 255;
+        y = (y + (x >> shift)) & 255;
+    }
+    out[0] = x;
+    out[1] = y;
+}
+
+static void mix_out(const int *mid, unsigned char *out) {
+    int mixed[2];
+    mix(mid[0], mid[1], 3, 2, mixed);
+    out[0] = mixed[0];
+    out[1] = mixed[1];
+}
+
+/* The tasks of pipelines and of a chain, of which each waits for another one. */
 static void wait_for_others(char kind, const unsigned char *in, unsigned char *out, int length) {
     static int mid[65536];
     for (int i = 0; kind == 'p' && i + 1 < length; i += 2) {
@@ -178,6 +225,12 @@ static void wait_for_others(char kind, const unsigned char *in, unsigned char *o
         split(in + i, mid + i);
         #pragma omp task firstprivate(i) depend(in: mid[i])
         scale(mid + i, out + i);
+    }
+    for (int i = 0; kind == 'm' && i + 1 < length; i += 2) {
+        #pragma omp task firstprivate(i) depend(out: mid[i])
+        mix(in[i], in[i + 1], 5, 3, mid + i);
+        #pragma omp task firstprivate(i) depend(in: mid[i])
+        mix_out(mid + i, out + i);
     }
     for (int i = 0; kind == 'c' && i < length; i++) {
         #pragma omp task firstprivate(i) depend(inout: mid[0])
@@ -198,7 +251,7 @@ int main(int argc, char **argv) {
         written = length > 2 ? length - 2 : 0;
         size = 1;
     }
-    int waits = strcmp(argv[1], "pipeline") == 0 || strcmp(argv[1], "chain") == 0;
+    int waits = strcmp(argv[1], "pipeline") == 0 || strcmp(argv[1], "mixing") == 0 || strcmp(argv[1], "chain") == 0;
     #pragma omp parallel
     #pragma omp single
     if (waits)
@@ -257,6 +310,20 @@ elseif kind == "pipeline" then
     local d = wrap(input:byte(k + 1) - input:byte(k))
     out[k] = string.char((input:byte(k) + d // 2) & 255)
     out[k + 1] = string.char((d < 0 and -(-d // 4) or d // 4) & 255)
+  end
+elseif kind == "mixing" then
+  local function mix(x, y, factor, shift)
+    for k = 1, 16 do
+      x = (x * factor + y) & 255
+      y = (y + (x >> shift)) & 255
+    end
+    return x, y
+  end
+  for k = 1, #input - 1, 2 do
+    local x, y = mix(input:byte(k), input:byte(k + 1), 5, 3)
+    x, y = mix(x, y, 3, 2)
+    out[k] = string.char(x)
+    out[k + 1] = string.char(y)
   end
 elseif kind == "chain" then
   local x = 0
@@ -356,6 +423,7 @@ invert 16384
 lift 65536
 overlap 65536
 pipeline 65536
+mixing 65536
 chain 65536
 turns 32
 wavelet 256
