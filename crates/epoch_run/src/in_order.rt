@@ -20,7 +20,7 @@ ghost use Rattle.epoch_run.specs.Standing.{HasCreated, StandsAt};
 ghost use Rattle.epoch_run.specs.declared.result.Budgets.{Budgets};
 
 use crate::beside::create;
-use crate::pace::Pace;
+use crate::pace::{Pace, most_steps};
 use crate::result::Budgets;
 use crate::sharing::share_out;
 use crate::standing::Standing;
@@ -241,7 +241,7 @@ pub(crate) fn run_created<G: Gate>(
         &run.layout,
         input,
         budgets.task,
-        run.most_steps(workers),
+        most_steps(workers, run.activations.len() as u64),
         gate,
     )?;
     run.held.pace = Pace::of(order.steps.saturating_sub(begun), count);

@@ -42,14 +42,6 @@ impl Pace {
         }
     }
 
-    /// Whether nothing tells yet.
-    pub(crate) fn is_unknown(self) -> bool {
-        match self {
-            Pace::Steps(_) => false,
-            Pace::Unknown => true,
-        }
-    }
-
     /// Whether they are so long that so many workers gain by sharing a run out.
     pub(crate) fn is_worth_shares(self, workers: u32) -> bool {
         match self {

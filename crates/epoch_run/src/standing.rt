@@ -19,7 +19,6 @@ use crate::held::Held;
 use crate::in_order::run_in_order;
 use crate::next_spans::NextSpans;
 use crate::open_bodies::OpenBodies;
-use crate::pace::most_steps;
 use crate::result::Budgets;
 use crate::size::EpochSize;
 use crate::way::Way;
@@ -123,12 +122,11 @@ impl<'c> Standing<'c> {
         self.held.without_end.len() == 0 && (workers == 1 || self.held.pace.may_be_short())
     }
 
-    /// Whether nobody waits now, and bodies are short, or nothing tells yet.
+    /// Whether nobody waits now, and bodies are short.
     fn goes_in_order(&self, workers: u32) -> bool
         ensures { IsTrue result → length self.now.held.without_end ≡ 0 }
     {
-        let may = workers == 1 || self.layout.starts.len() <= 1 || self.held.pace.is_short();
-        self.held.without_end.len() == 0 && may
+        self.held.without_end.len() == 0 && (workers == 1 || self.held.pace.is_short())
     }
 
     /// Runs what has no end yet by itself, which tells whether one waits and how long bodies are; and goes on in control order where
@@ -268,15 +266,6 @@ impl<'c> Standing<'c> {
         )?;
         add(alloc, &mut self.activations, &mut self.layout, next, laid)?;
         Ok(())
-    }
-
-    /// How many steps the bodies of the list may take together where they run one after the other. Where nothing tells yet how long bodies are and
-    /// the control program has ended, there are few of them, which may be long: then it is none.
-    pub(crate) fn most_steps(&self, workers: u32) -> u64 {
-        if workers > 1 && self.control.end().is_some() && self.held.pace.is_unknown() {
-            return 0;
-        }
-        most_steps(workers, self.activations.len() as u64)
     }
 
     /// Whether some of the activations are new.
