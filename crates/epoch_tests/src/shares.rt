@@ -61,11 +61,11 @@ const THREES: &str = r"int main(void) {
 }
 ";
 
-/// The first 12,000 read nothing, and of the others each reads what the one before it wrote, so that no share can begin among these.
+/// The first 6,000 read nothing, and of the 9,001 others each reads what the one before it wrote, so that no share can begin among these.
 const CHAINED: &str = r"int main(void) {
     int s __attribute__((stream));
     int i, x, y, z;
-    for (i = 0; i < 12000; i++) {
+    for (i = 0; i < 6000; i++) {
         #pragma omp task output(osout << z)
         {
             int k;
@@ -75,7 +75,7 @@ const CHAINED: &str = r"int main(void) {
     }
     #pragma omp task output(s << y)
     y = 1;
-    for (i = 0; i < 3000; i++) {
+    for (i = 0; i < 9000; i++) {
         #pragma omp task input(s >> x) output(s << y, osout << z)
         {
             y = (x * 5 + i) & 255;
@@ -106,12 +106,12 @@ const CHAIN: &str = r"int main(void) {
 /// A program with the turns of `main`, and how many activations of it are run by one thread at least and at most.
 type Case = (&'static str, u64, u32, u32);
 
-/// The first 2,048 run alone. `main` of the second one has turns for 4,000 of its loops.
+/// The first 2,048 run alone. `main` of the second one has turns for 7,000 of its loop.
 const CASES: [Case; 5] = [
     (PAIRS, 1_000_000, 2_048, 3_000),
     (PAIRS, 7_000, 2_048, 3_000),
     (THREES, 1_000_000, 2_048, 3_000),
-    (CHAINED, 1_000_000, 5_048, 6_000),
+    (CHAINED, 1_000_000, 5_000, 10_000),
     (CHAIN, 1_000_000, 5_001, 5_001),
 ];
 
