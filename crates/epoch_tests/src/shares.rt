@@ -1,5 +1,7 @@
 //! Runs in control order that several workers share out.
 
+ghost use Rattle.std.specs.Prelude.{◌≤◌};
+
 use crate::compiled::compiled;
 use crate::lengths::are_same;
 use epoch_run::{Budgets, RunResult, run_epochs};
