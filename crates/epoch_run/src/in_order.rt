@@ -20,7 +20,6 @@ ghost use Rattle.epoch_run.specs.Standing.{HasCreated, StandsAt};
 ghost use Rattle.epoch_run.specs.declared.result.Budgets.{Budgets};
 
 use crate::beside::create;
-use crate::pace::{Pace, most_steps};
 use crate::result::Budgets;
 use crate::sharing::share_out;
 use crate::standing::Standing;
@@ -235,16 +234,17 @@ pub(crate) fn run_created<G: Gate>(
     ensures same { OnOk result (run.new ≡ record run.old { held = run.new.held }) }
 {
     let begun = order.steps;
+    let pace = run.held.pace;
     let count = order.run_all(
         code,
         run.activations.as_slice(),
         &run.layout,
         input,
         budgets.task,
-        most_steps(workers, run.activations.len() as u64),
+        pace.most_steps(workers, run.activations.len() as u64),
         gate,
     )?;
-    run.held.pace = Pace::of(order.steps.saturating_sub(begun), count);
+    run.held.pace = pace.of_more(order.steps.saturating_sub(begun), count);
     Ok(count == run.activations.len())
 }
 

@@ -13,6 +13,12 @@ const CELL_STEPS: u64 = 80;
 /// creates the activations before its own as well.
 const SHARE_STEPS: u64 = 384;
 
+/// How many steps it has to take for each element that it reads: what a share writes is put behind the others', which takes about as long again.
+const ELEMENT_STEPS: u64 = 32;
+
+/// Bodies that take as many steps gain by several workers, whatever a table costs them.
+const LONG_STEPS: u64 = 4_096;
+
 /// How many steps are worth a thread.
 const THREAD_STEPS: u64 = 65_536;
 
@@ -21,23 +27,49 @@ const THREAD_STEPS: u64 = 65_536;
 pub(crate) enum Pace {
     /// None was run by several workers yet.
     Unknown,
-    /// They take about so many steps each.
-    Steps(u64),
+    /// They take about so many steps each, and read about so many elements.
+    Steps { each: u64, elements: u64 },
 }
 
 impl Pace {
-    /// The pace of so many frames whose bodies took so many steps.
-    pub(crate) fn of(steps: u64, frames: usize) -> Pace {
-        if frames == 0 {
-            return Pace::Unknown;
-        }
-        Pace::Steps((steps / frames as u64).max(COUNTED))
+    /// The pace of the frames of a plan whose bodies took so many steps together.
+    pub(crate) fn of(plan: &Plan, steps: u64) -> Pace {
+        let frames = plan.frames.len();
+        Pace::by(steps, frames, elements_of(plan))
     }
 
-    /// Whether bodies are known to be so short that several workers gain nothing by a table.
+    /// The pace of so many more activations like those before them, whose bodies took so many steps together.
+    pub(crate) fn of_more(self, steps: u64, count: usize) -> Pace {
+        let elements = match self {
+            Pace::Steps { elements, .. } => elements,
+            Pace::Unknown => 0,
+        };
+        Pace::by(steps, count, elements)
+    }
+
+    /// The pace of so many bodies that took so many steps together, and read so many elements each.
+    fn by(steps: u64, count: usize, elements: u64) -> Pace {
+        if count == 0 {
+            return Pace::Unknown;
+        }
+        Pace::Steps {
+            each: (steps / count as u64).max(COUNTED),
+            elements,
+        }
+    }
+
+    /// From how many steps on bodies gain by several workers that run a plan.
+    fn worth(self) -> u64 {
+        match self {
+            Pace::Steps { elements, .. } => worth_a_table(elements).min(LONG_STEPS),
+            Pace::Unknown => TABLE_STEPS,
+        }
+    }
+
+    /// Whether bodies are known to be so short that several workers gain nothing by a plan.
     pub(crate) fn is_short(self) -> bool {
         match self {
-            Pace::Steps(steps) => steps < TABLE_STEPS,
+            Pace::Steps { each, .. } => each < self.worth(),
             Pace::Unknown => false,
         }
     }
@@ -45,9 +77,10 @@ impl Pace {
     /// Whether they are so long that so many workers gain by sharing a run out.
     pub(crate) fn is_worth_shares(self, workers: u32) -> bool {
         match self {
-            Pace::Steps(steps) => {
+            Pace::Steps { each, elements } => {
                 let others = workers.min(4).saturating_sub(1);
-                steps.saturating_mul(u64::from(others)) >= SHARE_STEPS
+                each.saturating_mul(u64::from(others)) >= SHARE_STEPS
+                    && each >= elements.saturating_mul(ELEMENT_STEPS)
             }
             Pace::Unknown => false,
         }
@@ -56,9 +89,18 @@ impl Pace {
     /// Whether they may be: they are, or nothing tells yet.
     pub(crate) fn may_be_short(self) -> bool {
         match self {
-            Pace::Steps(steps) => steps < TABLE_STEPS,
+            Pace::Steps { .. } => self.is_short(),
             Pace::Unknown => true,
         }
+    }
+
+    /// How many steps the bodies of so many activations may take together where these run one after the other: any number by one worker, and by
+    /// several what short bodies take.
+    pub(crate) fn most_steps(self, workers: u32, activations: u64) -> u64 {
+        if workers == 1 {
+            return u64::MAX;
+        }
+        activations.saturating_mul(self.worth())
     }
 
     /// How many of the workers are to run a plan round by round; none where they are to run it over one table.
@@ -68,32 +110,28 @@ impl Pace {
         ensures few { IfSome result (λ some. some ≤ workers) }
     {
         match self {
-            Pace::Steps(steps) if steps < worth_a_table(plan) => {
-                Some(threads_for(open_at_first(plan).saturating_mul(steps), workers))
+            Pace::Steps { each, .. } if each < worth_a_table(elements_of(plan)) => {
+                Some(threads_for(open_at_first(plan).saturating_mul(each), workers))
             }
             _ => None,
         }
     }
 }
 
-/// How many steps the bodies of so many activations may take together where these run one after the other: any number by one worker, and by
-/// several what short bodies take.
-pub(crate) fn most_steps(workers: u32, activations: u64) -> u64 {
-    if workers == 1 {
-        return u64::MAX;
-    }
-    activations.saturating_mul(TABLE_STEPS)
-}
-
-/// From how many steps on an average body gains by a table.
-fn worth_a_table(plan: &Plan) -> u64 {
-    let frames = plan.frames.len() as u64;
-    if frames == 0 {
-        return TABLE_STEPS;
-    }
-    (plan.filled.len() as u64 / frames)
+/// From how many steps on an average body gains by a table, where it reads so many elements.
+fn worth_a_table(elements: u64) -> u64 {
+    elements
         .saturating_mul(CELL_STEPS)
         .saturating_add(TABLE_STEPS)
+}
+
+/// How many elements a frame of a plan reads, on the average.
+fn elements_of(plan: &Plan) -> u64 {
+    let frames = plan.frames.len() as u64;
+    if frames == 0 {
+        return 0;
+    }
+    plan.filled.len() as u64 / frames
 }
 
 /// How many of the workers so many steps are worth: one at least.
