@@ -37,7 +37,7 @@ use task_workers::Gate;
 const STRETCH: u32 = 256;
 
 /// How many of them run before the others are shared out among several workers.
-const ALONE: usize = 2_048;
+const ALONE: usize = 1_024;
 
 /// More than there ever are.
 const MOST: usize = 65_537;

@@ -19,6 +19,7 @@
 mod adding;
 mod at_once;
 mod beside;
+mod borders;
 mod epoch;
 mod epochs;
 mod held;

@@ -12,6 +12,7 @@ ghost use Rattle.epoch_run.specs.Run.{AreBudgets};
 ghost use Rattle.epoch_run.specs.Sharing.{AreSharedOut, FirstOnesRan, IsLaidOut};
 ghost use Rattle.epoch_run.specs.declared.result.Budgets.{Budgets};
 
+use crate::borders::Borders;
 use crate::in_order::create_stretch;
 use crate::result::Budgets;
 use crate::standing::Standing;
@@ -21,60 +22,6 @@ use os_code::Code;
 use os_io::Memory;
 use std::alloc::Global;
 use std::thread::{Threads, join_mut};
-
-/// How many activations a run has at most.
-const LIMIT: u32 = 65_536;
-
-/// How many shares a run is given out in at most: a share costs its thread the creation of all activations before it.
-const MOST_SHARES: u32 = 8;
-
-/// How many activations a share runs beyond its end: those of the next one may have to begin a few later, where they need something of each other.
-const OVERLAP: u32 = 64;
-
-/// Where the shares of a run begin. The first one is smaller than the others, since the control program and the positions of all are worked out
-/// by the same worker.
-#[derive(Clone, Copy)]
-pub(crate) struct Shares {
-    first: u32,
-    count: u32,
-}
-
-impl Shares {
-    /// The shares of so many workers behind so many activations that ran: the first one begins before these end, since it may have to begin a few
-    /// later.
-    pub(crate) fn behind(ran: u32, workers: u32) -> Shares {
-        Shares {
-            first: ran.saturating_sub(OVERLAP),
-            count: workers.min(MOST_SHARES),
-        }
-    }
-
-    /// The number of the last one.
-    pub(crate) fn last(self) -> u32 {
-        self.count.saturating_sub(1)
-    }
-
-    /// The number of the first activation of a share.
-    fn begin(self, number: u32) -> u32 {
-        if number == 0 {
-            return self.first;
-        }
-        let all = LIMIT.saturating_sub(self.first);
-        let led = all / self.count.max(1) / 2;
-        let each = (all - led) / self.count.saturating_sub(1).max(1);
-        self.first
-            .saturating_add(led)
-            .saturating_add(each.saturating_mul(number - 1))
-    }
-
-    /// The number of the activation before which it ends.
-    fn end(self, number: u32) -> u32 {
-        if number >= self.last() {
-            return LIMIT;
-        }
-        self.begin(number + 1).saturating_add(OVERLAP)
-    }
-}
 
 /// Runs the shares up to a number, each by a thread of its own, but for the first one, which this one runs: it has the control program create all
 /// activations, and lays them out. What ran is put behind those that had run before. After `Memory` the run is to be given up.
@@ -86,7 +33,7 @@ pub(crate) fn run_shares<R: Threads + Sync>(
     code: &Code,
     input: &[u8],
     budgets: Budgets,
-    shares: Shares,
+    borders: Borders,
     number: u32,
 ) -> Result<(), Memory>
     requires input { length input.now ≤ 4194304 }
@@ -102,7 +49,7 @@ pub(crate) fn run_shares<R: Threads + Sync>(
         requires { (length input.now ≤ 4194304) × AreBudgets budgets }
         ensures { OnOk result (IfSome share.exit (λ apart. IsReady code.entry.now apart.order
             × IsShare (parts_of code.entry.now) input.entry.now budgets.control budgets.task apart)) }
-    { set_share(alloc, code, input, budgets, shares, number, &mut share) };
+    { set_share(alloc, code, input, budgets, borders, number, &mut share) };
     let mut others = || -> Result<(), Memory>
         requires { IsSync R.row × (1 ≤ number) × (length input.now ≤ 4194304) × AreBudgets budgets
             × HaveRunInOrder code.now input.now budgets run.now order.now }
@@ -116,7 +63,7 @@ pub(crate) fn run_shares<R: Threads + Sync>(
             code,
             input,
             budgets,
-            shares,
+            borders,
             number - 1,
         )
     };
@@ -133,7 +80,7 @@ fn set_share(
     code: &Code,
     input: &[u8],
     budgets: Budgets,
-    shares: Shares,
+    borders: Borders,
     number: u32,
     share: &mut Option<Apart>,
 ) -> Result<(), Memory>
@@ -142,7 +89,7 @@ fn set_share(
     ensures share { OnOk result (IfSome share.new (λ apart. IsReady code.now apart.order
         × IsShare (parts_of code.now) input.now budgets.control budgets.task apart)) }
 {
-    let apart = run_numbered(alloc, code, input, budgets, shares, number)?;
+    let apart = run_numbered(alloc, code, input, budgets, borders, number)?;
     *share = Some(apart);
     Ok(())
 }
@@ -153,7 +100,7 @@ fn run_numbered(
     code: &Code,
     input: &[u8],
     budgets: Budgets,
-    shares: Shares,
+    borders: Borders,
     number: u32,
 ) -> Result<Apart, Memory>
     requires input { length input.now ≤ 4194304 }
@@ -167,8 +114,8 @@ fn run_numbered(
         input,
         budgets.control,
         budgets.task,
-        shares.begin(number),
-        shares.end(number),
+        borders.begin(number),
+        borders.end(number),
     )
 }
 
@@ -180,7 +127,7 @@ fn lead(
     code: &Code,
     input: &[u8],
     budgets: Budgets,
-    shares: Shares,
+    borders: Borders,
 ) -> Result<(), Memory>
     requires input { length input.now ≤ 4194304 }
     requires budgets { AreBudgets budgets }
@@ -188,7 +135,7 @@ fn lead(
     ensures shared { OnOk result (AreSharedOut code.now input.now budgets run.new.control run.new.layout order.new) }
 {
     lay_out_rest(run, alloc)?;
-    let apart = run_numbered(alloc, code, input, budgets, shares, 0)?;
+    let apart = run_numbered(alloc, code, input, budgets, borders, 0)?;
     join_one(order, &apart)?;
     Ok(())
 }

@@ -6,9 +6,10 @@ ghost use Rattle.epoch_run.specs.InOrder.{GoesInOrder, HaveRunInOrder};
 ghost use Rattle.epoch_run.specs.Run.{AreBudgets};
 ghost use Rattle.epoch_run.specs.Sharing.{AreSharedOut, passed};
 
+use crate::borders::Borders;
 use crate::in_order::run_created;
 use crate::result::Budgets;
-use crate::shares::{Shares, run_shares};
+use crate::shares::run_shares;
 use crate::standing::Standing;
 use control_run::ControlRun;
 use epoch_run_in_order::InOrder;
@@ -54,7 +55,8 @@ pub(crate) fn share_out<'c, R: Threads + Sync, G: Gate>(
     if !apart {
         return Ok(false);
     }
-    let shares = Shares::behind(first, workers);
+    let steps = order.steps / u64::from(first.max(1));
+    let borders = Borders::behind(&run.layout, steps, workers);
     run_shares(
         rt,
         run,
@@ -63,8 +65,8 @@ pub(crate) fn share_out<'c, R: Threads + Sync, G: Gate>(
         code,
         input,
         budgets,
-        shares,
-        shares.last(),
+        borders,
+        borders.last(),
     )?;
     take_up(run, order, alloc, code, input, budgets)?;
     run_created(run, order, code, input, budgets, workers, gate)?;

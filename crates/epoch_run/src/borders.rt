@@ -1,0 +1,120 @@
+//! Where the shares of a run begin.
+
+use flow_core_laws::ACTIVATIONS_LIMIT;
+use stream_match::Layout;
+
+/// How many shares a run is given out in at most: a share costs its thread the creation of all activations before it.
+const MOST_SHARES: u32 = 8;
+
+/// How many activations a share runs beyond its end: those of the next one may have to begin a few later, where they need something of each other.
+const OVERLAP: u32 = 64;
+
+/// What it takes to create an activation and to lay it out, in steps of the machine of a body.
+const CREATING: u64 = 40;
+
+/// What it takes to create one and to pass it.
+const PASSING: u64 = 43;
+
+/// What it takes to create one and to run it, besides its own steps.
+const RUNNING: u64 = 74;
+
+/// One, in the fractions by which shares are told.
+const ONE: u64 = 1_024;
+
+/// Where the shares of a run begin, such that all end at about the same time: the worker of the first one has the control program create all
+/// activations and lays them out, and that of each other one passes those before its own.
+#[derive(Clone, Copy)]
+pub(crate) struct Borders {
+    /// The number of the first activation.
+    first: u32,
+    /// About how many come from it on.
+    all: u64,
+    /// What passing an activation takes of running it.
+    passing: u64,
+    /// As how many activations that run creating all of them counts.
+    creating: u64,
+    count: u32,
+}
+
+impl Borders {
+    /// The borders of shares for so many workers behind the activations of a layout, which all ran, and whose bodies took so many steps each. The
+    /// first share begins before these end, since it may have to begin a few later.
+    pub(crate) fn behind(layout: &Layout, steps: u64, workers: u32) -> Borders {
+        let ran = count_of(layout).min(ACTIVATIONS_LIMIT);
+        let first = ran.saturating_sub(OVERLAP);
+        let all = u64::from(expected(layout).saturating_sub(first));
+        let running = steps.saturating_add(RUNNING).max(1);
+        Borders {
+            first,
+            all,
+            passing: (ONE * PASSING / running).min(ONE),
+            creating: all.saturating_mul(CREATING) / running,
+            count: workers.clamp(1, MOST_SHARES),
+        }
+    }
+
+    /// The number of the last one.
+    pub(crate) fn last(self) -> u32 {
+        self.count.saturating_sub(1)
+    }
+
+    /// The number of the first activation of a share.
+    pub(crate) fn begin(self, number: u32) -> u32 {
+        let (sum, rest) = self.weights(self.count);
+        let longest = self
+            .all
+            .saturating_mul(ONE)
+            .saturating_add(self.creating.saturating_mul(rest))
+            / sum.max(1);
+        let (sum, rest) = self.weights(number);
+        let before = longest
+            .saturating_mul(sum)
+            .saturating_sub(self.creating.saturating_mul(rest))
+            / ONE;
+        let begin = u64::from(self.first).saturating_add(before);
+        begin.min(u64::from(ACTIVATIONS_LIMIT)) as u32
+    }
+
+    /// How many activations so many shares have, in fractions: so many times what a worker could run in all its time, less so many times what creating all
+    /// counts as. A worker passes the shares before its own, so that each share has less of its time.
+    fn weights(self, count: u32) -> (u64, u64) {
+        let mut sum: u64 = 0;
+        let mut rest: u64 = 0;
+        for number in 0..count {
+            rest = if number == 0 { ONE } else { self.less(rest) };
+            sum = self.less(sum).saturating_add(ONE);
+        }
+        (sum, rest)
+    }
+
+    /// So much less what passing takes of it.
+    fn less(self, weight: u64) -> u64 {
+        weight.saturating_mul(ONE.saturating_sub(self.passing)) / ONE
+    }
+
+    /// The number of the activation before which a share ends.
+    pub(crate) fn end(self, number: u32) -> u32 {
+        if number >= self.last() {
+            return ACTIVATIONS_LIMIT;
+        }
+        self.begin(number + 1).saturating_add(OVERLAP)
+    }
+}
+
+/// How many activations a layout has.
+fn count_of(layout: &Layout) -> u32 {
+    let count = layout.starts.len().saturating_sub(1) as u64;
+    count.min(u64::from(u32::MAX)) as u32
+}
+
+/// About how many activations come in all, where the others read as much of the input as those of a layout.
+fn expected(layout: &Layout) -> u32 {
+    let read = layout.reads.as_slice().first();
+    match read {
+        Some(read) if *read > 0 => {
+            let whole = u64::from(count_of(layout)).saturating_mul(u64::from(layout.input_len));
+            (whole / *read).min(u64::from(ACTIVATIONS_LIMIT)) as u32
+        }
+        _ => ACTIVATIONS_LIMIT,
+    }
+}
