@@ -42,7 +42,7 @@ pub(crate) fn run_shares<R: Threads + Sync>(
     ensures shared { OnOk result (AreSharedOut code.now input.now budgets run.new.control run.new.layout order.new) }
 {
     if number == 0 {
-        return lead(run, order, alloc, code, input, budgets, shares);
+        return lead(run, order, alloc, code, input, budgets, borders);
     }
     let mut share: Option<Apart> = None;
     let mut own = || -> Result<(), Memory>
