@@ -38,8 +38,8 @@ pub record StandsBehind (code : Parts) (all before : List Activation) (input : L
   pub have_ended : HaveAllEnded (meaning_in code all before input budget)
   pub hold : HoldElements before input (meaning_in code all before input budget) order.streams.elements order.streams.firsts
 
--- The activations from a number on have run apart from those before it: each has ended as it means among all so far, whatever those before come
--- to, and the streams hold what they wrote.
+-- The activations from a number on have run apart from those before it: each has the end that it has among all so far, whether or not those
+-- before have ended, and the streams hold what they wrote.
 pub record StandsApart (code : Parts) (all : List Activation) (from : ℕ) (before : List Activation) (input : List ℕ) (budget : ℕ)
     (order : InOrder) : Type 0 where
   pub within : from ≤ length before

@@ -22,7 +22,7 @@ use std::mem;
 use stream_match::Kept;
 
 impl InOrder {
-    /// What is held of the activations that ran: how they ended, the output, and what else of them may still be read.
+    /// What is held of the activations that ran: how they ended, the output, and what the streams hold of them.
     pub fn hold(self, alloc: Global) -> Result<HeldInOrder, Memory>
         ensures ends { IfOk result (λ held. held.ends.ends ≡ self.ends) }
         ensures held { IfOk result (λ held. (code : Parts) (all before : List Activation) (input : List ℕ) (budget : ℕ)

@@ -39,7 +39,7 @@ pub struct InOrder {
 pub struct HeldInOrder {
     /// How each of them ended, and the elements of the output.
     pub ends: Ends,
-    /// The elements of declared streams that may still be read.
+    /// The elements that the declared streams hold: all that may still be read, and some before the read cursors.
     pub kept: Vec<Kept>,
 }
 

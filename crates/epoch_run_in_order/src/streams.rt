@@ -16,10 +16,11 @@ use os_io::{List, Memory};
 use std::alloc::Global;
 use stream_match_layouts::Span;
 
-/// The elements of streams behind activations that all have ended: what these wrote, as far as it may still be read.
+/// The elements of streams behind activations that all have ended: what these wrote, but for some that lie before the read cursors; in a run apart
+/// what the activations of that run wrote.
 #[derive(Drop)]
 pub struct Streams {
-    /// For each stream its elements from a position on, and of the output all. The input has none here.
+    /// For each stream its elements from a position on: of the output all, in a run apart those that it wrote. The input has none here.
     pub elements: List<List<Option<Elem>>>,
     /// For each stream that position.
     pub firsts: List<u64>,

@@ -1,4 +1,4 @@
--- Runs apart from the activations before them: what is known of those from a number on, whatever the ones before come to.
+-- Runs apart from the activations before them: what is known of those from a number on, whether or not the ones before have ended.
 use Rattle.std.specs.Prelude.{◌≡◌, ℕ, ◌<◌, ◌≤◌, List, [], Option, IsSome, All, drop, length, slice_index, slice_index_or, take}
 use Rattle.flow_core_laws.specs.declared.activation.Activation.{Activation}
 use Rattle.flow_core_laws.specs.declared.elem.Elem.{Elem}

@@ -35,8 +35,8 @@ abbrev pub written_to : ℕ → Outcome → List Window → ℕ → List (Option
 written_to number outcome windows stream =
     flat_map (written_in number outcome) (filter (λ (w : Window). is_write_to stream w.claim) windows)
 
--- Lists, one a stream, hold the elements of the streams in a state, each from a position on; what they lack nobody reads any
--- more. The output is held whole. The list of the input, which is stream 0, says nothing.
+-- Lists of as many streams as there are of them hold the elements in a state, each from a position on; where all activations have ended, what
+-- they lack nobody reads any more. The output is held whole. The list of the input, which is stream 0, says nothing.
 pub record HoldElements (activations : List Activation) (input : List ℕ) (state : State) (elements : List (List (Option Elem))) (firsts : List ℕ) : Type 0 where
   pub as_many : length firsts ≡ length elements
   pub has_output : 2 ≤ length elements

@@ -10,7 +10,8 @@ use Rattle.os_code.specs.declared.parts.Parts.{Parts}
 abbrev pub created : Parts → (input : List ℕ) → (budget : ℕ) → List Activation
 created code input budget = (control code (length input) budget).activations
 
--- Activations from a number on, among those that the control program creates, have run apart from those before them.
+-- Activations from a number on, among those that the control program creates, have the ends that they have among all, whether or not those before
+-- them have ended.
 pub record IsShare (code : Parts) (input : List ℕ) (control_budget task_budget : ℕ) (apart : Apart) : Type 0 where
   pub count : ℕ
   pub within : count ≤ length (created code input control_budget)
