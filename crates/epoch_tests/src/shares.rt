@@ -108,11 +108,11 @@ const CHAIN: &str = r"int main(void) {
 /// A program with the turns of `main`, and how many activations of it are run by one thread at least and at most.
 type Case = (&'static str, u64, u32, u32);
 
-/// The first 2,048 run alone. `main` of the second one has turns for 7,000 of its loop.
+/// The first 1,024 run alone. `main` of the second one has turns for 7,000 of its loop.
 const CASES: [Case; 5] = [
-    (PAIRS, 1_000_000, 2_048, 3_000),
-    (PAIRS, 7_000, 2_048, 3_000),
-    (THREES, 1_000_000, 2_048, 3_000),
+    (PAIRS, 1_000_000, 1_024, 2_000),
+    (PAIRS, 7_000, 1_024, 2_000),
+    (THREES, 1_000_000, 1_024, 2_000),
     (CHAINED, 1_000_000, 5_000, 10_000),
     (CHAIN, 1_000_000, 5_001, 5_001),
 ];
