@@ -13,10 +13,10 @@ const OVERLAP: u32 = 64;
 const CREATING: u64 = 40;
 
 /// What it takes to create one and to pass it.
-const PASSING: u64 = 43;
+const PASSING: u64 = 32;
 
 /// What it takes to create one and to run it, besides its own steps.
-const RUNNING: u64 = 74;
+const RUNNING: u64 = 122;
 
 /// One, in the fractions by which shares are told.
 const ONE: u64 = 1_024;

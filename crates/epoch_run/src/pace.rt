@@ -11,7 +11,7 @@ const CELL_STEPS: u64 = 80;
 
 /// How many steps an average body has to take for each worker but one, of four at most, for a run in control order to be shared out: each of them
 /// creates the activations before its own as well.
-const SHARE_STEPS: u64 = 384;
+const SHARE_STEPS: u64 = 192;
 
 /// How many steps it has to take for each element that it reads: what a share writes is put behind the others', which takes about as long again.
 const ELEMENT_STEPS: u64 = 32;
@@ -32,10 +32,12 @@ pub(crate) enum Pace {
 }
 
 impl Pace {
-    /// The pace of the frames of a plan whose bodies took so many steps together.
+    /// The pace of the frames of a plan whose bodies took so many steps together. Those below `COUNTED` steps aren't counted, so that all are taken
+    /// to have as many.
     pub(crate) fn of(plan: &Plan, steps: u64) -> Pace {
         let frames = plan.frames.len();
-        Pace::by(steps, frames, elements_of(plan))
+        let counted = steps.max((frames as u64).saturating_mul(COUNTED));
+        Pace::by(counted, frames, elements_of(plan))
     }
 
     /// The pace of so many more activations like those before them, whose bodies took so many steps together.
@@ -53,7 +55,7 @@ impl Pace {
             return Pace::Unknown;
         }
         Pace::Steps {
-            each: (steps / count as u64).max(COUNTED),
+            each: steps / count as u64,
             elements,
         }
     }
@@ -71,6 +73,14 @@ impl Pace {
         match self {
             Pace::Steps { each, .. } => each < self.worth(),
             Pace::Unknown => false,
+        }
+    }
+
+    /// How many steps they take each, as far as that is known.
+    pub(crate) fn steps(self) -> u64 {
+        match self {
+            Pace::Steps { each, .. } => each,
+            Pace::Unknown => 0,
         }
     }
 

@@ -55,8 +55,7 @@ pub(crate) fn share_out<'c, R: Threads + Sync, G: Gate>(
     if !apart {
         return Ok(false);
     }
-    let steps = order.steps / u64::from(first.max(1));
-    let borders = Borders::behind(&run.layout, steps, workers);
+    let borders = Borders::behind(&run.layout, run.held.pace.steps(), workers);
     run_shares(
         rt,
         run,
