@@ -1,15 +1,13 @@
 //! Lists of frames over plans that were written out by their claims, with what they come to.
-ghost use Rattle.std.specs.Prelude.{◌≡◌, ◌≤◌, ◌<◌, ◌^◌, All, IfOk, length, true};
 ghost use Rattle.flow_core_laws.specs.IsSound.{IsSound};
 
-use crate::lasts::Lasts;
+use crate::plans::{activation, plan_of, replayed};
 use flow_core::{Activation, Claim, Elem, Plan};
-use lawful_layouts::lawful_layout;
 use os_io::{List, Memory};
 use std::alloc::Global;
+use std::process::Abort;
 use std::test::Fail;
-use stream_match::build;
-use trace_replay::{Replayed, replay};
+use trace_replay::Replayed;
 
 /// A read claim by its stream and its horizon, by which it moves.
 macro_rules! reads {
@@ -38,7 +36,6 @@ macro_rules! writes {
 }
 
 /// What lists come to.
-#[derive(Clone, Copy)]
 enum Told<'a> {
     /// Whole, with this output.
     Whole(&'a [Option<Elem>]),
@@ -51,7 +48,6 @@ enum Told<'a> {
 }
 
 /// Lists over the plan of a list of activations.
-#[derive(Clone, Copy)]
 struct Case<'a> {
     tasks: &'a [&'a [Claim]],
     lists: &'a [&'a [u32]],
@@ -79,7 +75,7 @@ const TWO_WRITERS: &[&[Claim]] = &[
     &[writes!(3, 1)],
 ];
 
-const CASES: [Case<'static>; 27] = [
+static CASES: [Case<'static>; 27] = [
     // the head of either list runs once it misses nothing
     Case {
         tasks: READER_FIRST,
@@ -224,7 +220,7 @@ const CASES: [Case<'static>; 27] = [
 ];
 
 /// The second traps, and poisons what the third reads.
-const FAILS: Case<'static> = Case {
+static FAILS: Case<'static> = Case {
     tasks: &[
         &[writes!(2, 1)],
         &[reads!(2, 1), writes!(3, 1)],
@@ -234,95 +230,77 @@ const FAILS: Case<'static> = Case {
     told: Told::Whole(&[Some(Elem::Poison(1))]),
 };
 
-/// Activations with these claims.
-fn activations_of(alloc: Global, tasks: &[&[Claim]]) -> Result<Vec<Activation>, Memory> {
-    let mut activations = Vec::new(alloc);
-    for task in tasks {
-        activations.push(Activation {
-            site: 0,
-            captured: List::new(alloc),
-            claims: List::from_slice(alloc, task)?,
-        })?;
-    }
-    Ok(activations)
-}
-
-/// The plan of activations with these claims, without input.
-fn plan_of(alloc: Global, tasks: &[&[Claim]]) -> Result<Plan, Fail>
-    ensures { IfOk result IsSound }
-{
-    let activations = activations_of(alloc, tasks)?;
-    let Some(layout) = lawful_layout(alloc, 5, 0, activations.as_slice())? else {
-        return Err(Fail::from("the activations aren't lawful"));
-    };
-    let plan = build(alloc, &layout, &[])?;
-    Ok(plan)
-}
-
-/// Lists of these numbers, at most 64.
-fn lists_of(alloc: Global, lists: &[&[u32]]) -> Result<Vec<List<u32>>, Memory> {
-    let mut all = Vec::new(alloc);
-    for list in lists {
-        all.push(List::from_slice(alloc, list)?)?;
-    }
-    Ok(all)
-}
-
-/// Whether lists are as many and as short as they may be.
-pub(crate) fn may_replay(lists: &[List<u32>]) -> bool
-    ensures count { result ≡ true → (1 ≤ length lists.now) × (length lists.now ≤ 64) }
-    ensures short { result ≡ true → All (λ list. length list < 2 ^ 32) lists.now }
-{
-    if lists.is_empty() || lists.len() > 64 {
-        return false;
-    }
-    for list in lists {
-        if list.len() as u64 >= 1 << 32 {
-            return false;
-        }
-    }
-    true
-}
-
-/// Whether an answer is the one that was worked out.
-fn is_told(answer: &Replayed, told: Told) -> bool {
-    match (answer, told) {
-        (Replayed::Whole(ends), Told::Whole(output)) => ends.output.as_slice() == output,
-        (Replayed::Short { frame }, Told::Short(f)) => *frame == f,
-        (Replayed::Stuck { list, frame, cell }, Told::Stuck(l, f, c)) => {
-            *list == l && *frame == f && *cell == c
-        }
-        (Replayed::Repeat { frame }, Told::Repeat(f)) => *frame == f,
-        (Replayed::Stranger { list, place }, Told::Stranger(l, p)) => *list == l && *place == p,
-        _ => false,
-    }
-}
-
-/// Whether lists come to what was worked out.
-fn comes_to(alloc: Global, case: Case, some_fail: bool) -> Result<bool, Fail> {
-    let plan = plan_of(alloc, case.tasks)?;
-    let lists = lists_of(alloc, case.lists)?;
-    let bodies = Lasts {
-        plan: &plan,
-        some_fail,
-    };
-    if !may_replay(lists.as_slice()) {
-        return Ok(false);
-    }
-    let answer = replay(alloc, &plan, &bodies, lists.as_slice())?;
-    Ok(is_told(&answer, case.told))
-}
-
 #[test]
 fn tells_what_lists_come_to(rt: HostRuntime) -> Result<(), Fail> {
-    for case in CASES {
-        assert!(rt; comes_to(rt.alloc(), case, false)?);
-    }
-    Ok(())
+    all_come_to(&rt, &CASES)
 }
 
 #[test]
 fn replays_frames_that_fail(rt: HostRuntime) -> Result<(), Fail> {
-    assert!(rt; comes_to(rt.alloc(), FAILS, true)?);
+    comes_to(&rt, &FAILS, true)
+}
+
+/// Whether the lists of each case come to what was worked out.
+fn all_come_to(rt: &(impl AllocGlobal + Abort), cases: &[Case<'_>]) -> Result<(), Fail> {
+    for case in cases {
+        comes_to(rt, case, false)?;
+    }
     Ok(())
+}
+
+/// Whether lists come to what was worked out.
+fn comes_to(rt: &(impl AllocGlobal + Abort), case: &Case<'_>, some_fail: bool) -> Result<(), Fail> {
+    let activations = activations_of(rt.alloc(), case.tasks)?;
+    let plan = plan_of(rt.alloc(), activations)?;
+    assert!(rt; come_to(rt.alloc(), &plan, case.lists, some_fail, &case.told)?);
+    Ok(())
+}
+
+/// Whether lists come to this over a plan.
+fn come_to(
+    alloc: Global,
+    plan: &Plan,
+    lists: &[&[u32]],
+    some_fail: bool,
+    told: &Told<'_>,
+) -> Result<bool, Memory>
+    requires { IsSound plan.now }
+{
+    let lists = lists_of(alloc, lists)?;
+    match replayed(alloc, plan, lists.as_slice(), some_fail)? {
+        Some(answer) => Ok(is_told(&answer, told)),
+        None => Ok(false),
+    }
+}
+
+/// Activations with these claims.
+fn activations_of(alloc: Global, tasks: &[&[Claim]]) -> Result<Vec<Activation>, Memory> {
+    let mut activations = Vec::new(alloc);
+    for task in tasks {
+        activations.push(activation(alloc, *task)?)?;
+    }
+    Ok(activations)
+}
+
+/// Lists of these numbers.
+fn lists_of(alloc: Global, lists: &[&[u32]]) -> Result<Vec<List<u32>>, Memory> {
+    let mut all = Vec::new(alloc);
+    for list in lists {
+        all.push(List::from_slice(alloc, *list)?)?;
+    }
+    Ok(all)
+}
+
+/// Whether an answer is the one that was worked out.
+fn is_told(answer: &Replayed, told: &Told<'_>) -> bool {
+    match (answer, told) {
+        (Replayed::Whole(ends), Told::Whole(output)) => ends.output.as_slice() == *output,
+        (Replayed::Short { frame }, Told::Short(f)) => *frame == *f,
+        (Replayed::Stuck { list, frame, cell }, Told::Stuck(l, f, c)) => {
+            *list == *l && *frame == *f && *cell == *c
+        }
+        (Replayed::Repeat { frame }, Told::Repeat(f)) => *frame == *f,
+        (Replayed::Stranger { list, place }, Told::Stranger(l, p)) => *list == *l && *place == *p,
+        _ => false,
+    }
 }

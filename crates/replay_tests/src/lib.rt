@@ -8,4 +8,6 @@ mod answers;
 #[cfg(test)]
 mod lasts;
 #[cfg(test)]
+mod plans;
+#[cfg(test)]
 mod workers;

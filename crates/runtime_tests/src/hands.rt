@@ -1,11 +1,20 @@
 //! Hands on one thread: what each is given, and in which order.
-ghost use Rattle.steal_pool.specs.Hands.{IsNewHand};
+ghost use Rattle.std.specs.Prelude.{◌≡◌};
+ghost use Rattle.steal_pool.specs.Hands.{IsNewHand, bound_of, spare_of};
 
 mod asked;
 
 use std::process::Abort;
 use std::test::Fail;
 use steal_pool::{Hand, Look, Pool};
+
+/// Asks that a hand gives this next.
+fn gives(rt: &impl Abort, hand: &mut Hand, look: Look)
+    ensures bounded { bound_of hand.new ≡ bound_of hand.old }
+    ensures spare { spare_of hand.new ≡ spare_of hand.old }
+{
+    assert!(rt; hand.next() == look);
+}
 
 #[test]
 fn gives_what_another_hand_pushed(rt: HostRuntime) -> Result<(), Fail> {
@@ -23,10 +32,10 @@ fn gives_in_turn(rt: &impl Abort, mut first: Hand, mut second: Hand)
 {
     first.push(5);
     first.push(7);
-    assert!(rt; second.next() == Look::Frame(5));
-    assert!(rt; first.next() == Look::Frame(7));
-    assert!(rt; second.next() == Look::Empty);
-    assert!(rt; first.next() == Look::Empty);
+    gives(rt, &mut second, Look::Frame(5));
+    gives(rt, &mut first, Look::Frame(7));
+    gives(rt, &mut second, Look::Empty);
+    gives(rt, &mut first, Look::Empty);
 }
 
 #[test]
@@ -46,11 +55,11 @@ fn gives_its_own_first(rt: &impl Abort, mut first: Hand, mut second: Hand)
     first.push(5);
     first.push(7);
     second.push(3);
-    assert!(rt; first.next() == Look::Frame(5));
-    assert!(rt; second.next() == Look::Frame(3));
-    assert!(rt; second.next() == Look::Frame(7));
-    assert!(rt; first.next() == Look::Empty);
-    assert!(rt; second.next() == Look::Empty);
+    gives(rt, &mut first, Look::Frame(5));
+    gives(rt, &mut second, Look::Frame(3));
+    gives(rt, &mut second, Look::Frame(7));
+    gives(rt, &mut first, Look::Empty);
+    gives(rt, &mut second, Look::Empty);
 }
 
 #[test]
@@ -73,11 +82,11 @@ fn takes_from_the_one_behind(rt: &impl Abort, mut first: Hand, mut second: Hand,
     first.push(2);
     second.push(3);
     second.push(4);
-    assert!(rt; last.next() == Look::Frame(1));
+    gives(rt, &mut last, Look::Frame(1));
     last.push(5);
-    assert!(rt; first.next() == Look::Frame(2));
-    assert!(rt; first.next() == Look::Frame(3));
-    assert!(rt; second.next() == Look::Frame(4));
-    assert!(rt; second.next() == Look::Frame(5));
-    assert!(rt; last.next() == Look::Empty);
+    gives(rt, &mut first, Look::Frame(2));
+    gives(rt, &mut first, Look::Frame(3));
+    gives(rt, &mut second, Look::Frame(4));
+    gives(rt, &mut second, Look::Frame(5));
+    gives(rt, &mut last, Look::Empty);
 }

@@ -10,13 +10,9 @@ mod activations;
 #[cfg(test)]
 mod bytes;
 #[cfg(test)]
-mod elements;
-#[cfg(test)]
 mod hands;
 #[cfg(test)]
 mod layouts;
-#[cfg(test)]
-mod lists;
 #[cfg(test)]
 mod literals;
 #[cfg(test)]

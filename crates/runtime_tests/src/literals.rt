@@ -1,4 +1,4 @@
-//! Claims, spans, frames and pieces as they stand in tables.
+//! Claims, spans, frames, pieces and elements as they stand in tables.
 
 /// A read claim by its stream, horizon, burst and skip.
 macro_rules! reads {
@@ -81,9 +81,25 @@ macro_rules! piece {
     };
 }
 
+/// An element that is a value.
+macro_rules! value {
+    ($value:expr) => {
+        Some(flow_core::Elem::Value($value))
+    };
+}
+
+/// An element that is poison, by its root.
+macro_rules! poison {
+    ($root:expr) => {
+        Some(flow_core::Elem::Poison($root))
+    };
+}
+
 pub(crate) use frame;
 pub(crate) use piece;
+pub(crate) use poison;
 pub(crate) use read;
 pub(crate) use reads;
+pub(crate) use value;
 pub(crate) use writes;
 pub(crate) use written;

@@ -46,6 +46,7 @@ fn steps_call_by_call(rt: HostRuntime) -> Result<(), Fail> {
         frame!(1, 1, 0, 1, 2, 0),
         &[piece!(0, 2, 0, 1, 1), piece!(1, 0, 0, 1, 0)],
         &[None, None],
+        &[0, 1],
     )?;
     let (table, mut seats) = FrameTable::open(rt.alloc(), &plan, &Reader, 1)?;
     let seat = seats.remove(0);

@@ -1,16 +1,16 @@
-//! Plans that were written by hand, run on one thread.
+//! A plan that was written by hand, run on one thread.
 
 ghost use Rattle.std.specs.Prelude.{◌≡◌, ◌+◌, ◌<◌, ◌==◌, [], ◌∷◌, ℕ, pos, false, IsTrue, ⊤};
 ghost use Rattle.std.specs.Prelude.{if◌then◌else◌, length, slice_index_or};
 ghost use Rattle.flow_core_laws.specs.declared.task_end.TaskEnd.TheVariants.{Done};
 ghost use Rattle.flow_core_laws.specs.Outcome.{outcome_of};
 
-use crate::elements::are_values;
-use crate::literals::{frame, piece};
+use crate::literals::{frame, piece, poison, value};
 use crate::plans::plan_of;
-use flow_core::{Bodies, Elem, TaskEnd, execute_one};
+use flow_core::{Bodies, Elem, Ends, TaskEnd, execute_one};
 use os_io::Memory;
 use std::alloc::Global;
+use std::process::Abort;
 use std::test::Fail;
 
 /// What a body does: its end, and its outputs, which are its inputs or 41 alone.
@@ -63,126 +63,111 @@ const GIVE: Rule = Rule {
     copies: false,
 };
 
-/// Two windows over one input share its middle elements; each copies them to the sink.
-#[test]
-fn copies_overlapping_windows(rt: HostRuntime) -> Result<(), Fail> {
-    let plan = plan_of(
-        rt.alloc(),
-        &[frame!(0, 2, 2, 0, 0, 1), frame!(2, 2, 2, 0, 1, 1)],
-        frame!(4, 4, 0, 4, 2, 0),
-        &[piece!(0, 2, 0, 2, 4), piece!(1, 2, 0, 2, 6)],
-        &[Some(3), Some(6), Some(6), Some(9), None, None, None, None],
-    )?;
-    let ends = execute_one(
-        rt.alloc(),
-        &plan,
-        &Table {
-            rules: &[COPY, COPY],
-        },
-    )?;
-    assert!(rt; ends.ends.as_slice() == [Some(TaskEnd::Done), Some(TaskEnd::Done)].as_slice());
-    assert!(rt;
-        are_values(
-            ends.output.as_slice(),
-            &[Some(3), Some(6), Some(6), Some(9)]
-        )
-    );
-    Ok(())
-}
+const TRAP: Rule = Rule {
+    end: TaskEnd::Trapped { code: 2, line: 6 },
+    copies: true,
+};
 
-/// Each frame reads what the next one writes, so that the last one runs first.
-#[test]
-fn runs_readers_created_before_their_writers(rt: HostRuntime) -> Result<(), Fail> {
-    let plan = plan_of(
-        rt.alloc(),
-        &[
-            frame!(0, 1, 1, 1, 0, 1),
-            frame!(1, 1, 1, 1, 1, 1),
-            frame!(2, 0, 1, 0, 2, 1),
-        ],
-        frame!(2, 1, 0, 1, 3, 0),
-        &[
-            piece!(0, 3, 0, 1, 2),
-            piece!(1, 0, 0, 1, 0),
-            piece!(2, 1, 0, 1, 1),
-        ],
-        &[None, None, None],
-    )?;
-    let ends = execute_one(
-        rt.alloc(),
-        &plan,
-        &Table {
-            rules: &[COPY, COPY, GIVE],
-        },
-    )?;
-    assert!(rt;
-        ends.ends.as_slice()
-            == [
-                Some(TaskEnd::Done),
-                Some(TaskEnd::Done),
-                Some(TaskEnd::Done)
-            ]
-            .as_slice()
-    );
-    assert!(rt; are_values(ends.output.as_slice(), &[Some(41)]));
-    Ok(())
-}
+const SPIN: Rule = Rule {
+    end: TaskEnd::OverBudget,
+    copies: true,
+};
 
-/// Two frames wait for each other, and one for itself; the sink has a cell that nobody writes.
-#[test]
-fn starves_cycles(rt: HostRuntime) -> Result<(), Fail> {
-    let plan = plan_of(
-        rt.alloc(),
-        &[
-            frame!(0, 1, 1, 1, 0, 1),
-            frame!(1, 1, 1, 1, 1, 1),
-            frame!(2, 1, 1, 1, 2, 1),
-        ],
-        frame!(3, 1, 0, 1, 3, 0),
-        &[
-            piece!(0, 1, 0, 1, 1),
-            piece!(1, 0, 0, 1, 0),
-            piece!(2, 2, 0, 1, 2),
-        ],
-        &[None, None, None, None],
-    )?;
-    let ends = execute_one(
-        rt.alloc(),
-        &plan,
-        &Table {
-            rules: &[COPY, COPY, COPY],
-        },
-    )?;
-    assert!(rt; ends.ends.as_slice() == [None, None, None].as_slice());
-    assert!(rt; are_values(ends.output.as_slice(), &[None]));
-    Ok(())
-}
+const DONE: Option<TaskEnd> = Some(TaskEnd::Done);
 
-/// A trapped frame and one over budget poison what they should have written, and a reader of theirs hands the poison on.
+/// How the frames end.
+static ENDS: [Option<TaskEnd>; 13] = [
+    DONE,
+    DONE,
+    DONE,
+    DONE,
+    DONE,
+    None,
+    None,
+    None,
+    DONE,
+    Some(TaskEnd::Trapped { code: 2, line: 6 }),
+    Some(TaskEnd::OverBudget),
+    Some(TaskEnd::Poisoned { root: 10 }),
+    DONE,
+];
+
+/// What the sink is given.
+static OUTPUT: [Option<Elem>; 11] = [
+    value!(3),
+    value!(6),
+    value!(6),
+    value!(9),
+    value!(41),
+    None,
+    value!(50),
+    poison!(9),
+    poison!(10),
+    poison!(10),
+    value!(41),
+];
+
+/// Frames 0 and 1 have windows over one input that share its middle elements; each copies them to the sink. Frames 2 and 3
+/// read what the next one writes, so that frame 4 runs first. Frames 5 and 6 wait for each other, and frame 7 for itself; the
+/// sink has a cell that nobody writes. Frames 9 and 10, of which one traps and the other runs over its budget, poison what they
+/// should have written, and frame 11 hands the poison on; those beside them, frames 8 and 12, are done.
 #[test]
-fn leaves_poison_where_frames_trap_or_run_over_budget(rt: HostRuntime) -> Result<(), Fail> {
+fn runs_frames_copies_what_they_give_and_poisons_what_they_fail_to_give(
+    rt: HostRuntime,
+) -> Result<(), Fail> {
     let plan = plan_of(
         rt.alloc(),
         &[
-            frame!(0, 1, 1, 0, 0, 1),
-            frame!(1, 1, 1, 0, 1, 1),
-            frame!(2, 1, 1, 0, 2, 2),
-            frame!(3, 1, 1, 1, 4, 1),
-            frame!(4, 0, 1, 0, 5, 1),
+            frame!(0, 2, 2, 0, 0, 1),
+            frame!(2, 2, 2, 0, 1, 1),
+            frame!(4, 1, 1, 1, 2, 1),
+            frame!(5, 1, 1, 1, 3, 1),
+            frame!(6, 0, 1, 0, 4, 1),
+            frame!(6, 1, 1, 1, 5, 1),
+            frame!(7, 1, 1, 1, 6, 1),
+            frame!(8, 1, 1, 1, 7, 1),
+            frame!(9, 1, 1, 0, 8, 1),
+            frame!(10, 1, 1, 0, 9, 1),
+            frame!(11, 1, 1, 0, 10, 2),
+            frame!(12, 1, 1, 1, 12, 1),
+            frame!(13, 0, 1, 0, 13, 1),
         ],
-        frame!(4, 5, 0, 5, 6, 0),
+        frame!(13, 11, 0, 11, 14, 0),
         &[
-            piece!(0, 5, 0, 1, 4),
-            piece!(1, 5, 0, 1, 5),
-            piece!(2, 5, 0, 1, 6),
-            piece!(2, 3, 0, 1, 3),
-            piece!(3, 5, 0, 1, 7),
-            piece!(4, 5, 0, 1, 8),
+            piece!(0, 13, 0, 2, 13),
+            piece!(1, 13, 0, 2, 15),
+            piece!(2, 13, 0, 1, 17),
+            piece!(3, 2, 0, 1, 4),
+            piece!(4, 3, 0, 1, 5),
+            piece!(5, 6, 0, 1, 7),
+            piece!(6, 5, 0, 1, 6),
+            piece!(7, 7, 0, 1, 8),
+            piece!(8, 13, 0, 1, 19),
+            piece!(9, 13, 0, 1, 20),
+            piece!(10, 13, 0, 1, 21),
+            piece!(10, 11, 0, 1, 12),
+            piece!(11, 13, 0, 1, 22),
+            piece!(12, 13, 0, 1, 23),
         ],
         &[
-            Some(50),
-            Some(0),
-            Some(7),
+            value!(3),
+            value!(6),
+            value!(6),
+            value!(9),
+            None,
+            None,
+            None,
+            None,
+            None,
+            value!(50),
+            value!(0),
+            value!(7),
+            None,
+            None,
+            None,
+            None,
+            None,
+            None,
             None,
             None,
             None,
@@ -190,43 +175,20 @@ fn leaves_poison_where_frames_trap_or_run_over_budget(rt: HostRuntime) -> Result
             None,
             None,
         ],
+        &[0, 1, 2, 3, 4, 5, 6, 7, 8, 9, 10, 11, 12],
     )?;
-    let spin = Rule {
-        end: TaskEnd::OverBudget,
-        copies: true,
+    let bodies = Table {
+        rules: &[
+            COPY, COPY, COPY, COPY, GIVE, COPY, COPY, COPY, COPY, TRAP, SPIN, COPY, GIVE,
+        ],
     };
-    let trap = Rule {
-        end: TaskEnd::Trapped { code: 2, line: 6 },
-        copies: true,
-    };
-    let ends = execute_one(
-        rt.alloc(),
-        &plan,
-        &Table {
-            rules: &[COPY, trap, spin, COPY, GIVE],
-        },
-    )?;
-    assert!(rt;
-        ends.ends.as_slice()
-            == [
-                Some(TaskEnd::Done),
-                Some(TaskEnd::Trapped { code: 2, line: 6 }),
-                Some(TaskEnd::OverBudget),
-                Some(TaskEnd::Poisoned { root: 2 }),
-                Some(TaskEnd::Done)
-            ]
-            .as_slice()
-    );
-    assert!(rt;
-        ends.output.as_slice()
-            == [
-                Some(Elem::Value(50)),
-                Some(Elem::Poison(1)),
-                Some(Elem::Poison(2)),
-                Some(Elem::Poison(2)),
-                Some(Elem::Value(41))
-            ]
-            .as_slice()
-    );
+    let ends = execute_one(rt.alloc(), &plan, &bodies)?;
+    has_ends(&rt, &ends, &ENDS, &OUTPUT);
     Ok(())
+}
+
+/// Asks that a run came to these ends and elements.
+fn has_ends(rt: &impl Abort, found: &Ends, ends: &[Option<TaskEnd>], output: &[Option<Elem>]) {
+    assert!(rt; found.ends.as_slice() == ends);
+    assert!(rt; found.output.as_slice() == output);
 }

@@ -7,20 +7,17 @@ mod missing;
 mod sinks;
 mod told;
 
-use crate::activations::activations_of;
+use crate::activations::layout_of;
 use crate::bytes::are_bytes;
-use crate::lists::list_of;
 use collector::{output_bytes, report_lines};
 use flow_core::{Claim, ControlEnd, Elem, Ends, TaskEnd};
-use lawful_layouts::lawful_layout;
-use os_io::{MemSink, Memory, WriteError};
+use os_io::{List, MemSink, Memory, WriteError};
 use std::alloc::Global;
 use std::process::Abort;
 use std::test::Fail;
 use stream_match::Layout;
 
 /// What a run came to.
-#[derive(Clone, Copy)]
 struct Case<'a> {
     streams: u32,
     input_len: u32,
@@ -34,7 +31,7 @@ struct Case<'a> {
 /// A run, the bytes that are written, and what is reported.
 type Told = (Case<'static>, &'static [u8], &'static str);
 
-impl<'a> Case<'a> {
+impl Case<'_> {
     /// Whether these bytes are written.
     fn writes(&self, rt: &(impl AllocGlobal + Abort), written: &[u8]) -> Result<(), Memory> {
         let ends = self.run_ends(rt.alloc())?;
@@ -45,58 +42,81 @@ impl<'a> Case<'a> {
     }
 
     /// Whether this is reported, whatever the sink takes in a call; where it takes all, in few calls.
-    fn tells(&self, rt: &(impl AllocGlobal + Abort), report: &str) -> Result<(), Fail> {
+    fn tells(&self, rt: &(impl AllocGlobal + Abort), report: &[u8]) -> Result<(), Fail> {
         let writes = report.len() as u64 / 128 + 1;
         for (most, failing) in [(4096, writes), (1, 4096)] {
-            let (told, cause) = self.told(rt.alloc(), 4096, most, failing)?;
-            assert!(rt; told.as_slice() == report.as_bytes(), "{report}");
-            assert!(rt; cause == "none");
+            let sink = Sink {
+                room: 4096,
+                most,
+                failing,
+            };
+            self.is_told(rt, sink, report, "none")?;
         }
         Ok(())
     }
 
-    /// What a sink takes of the report that has room for so many bytes, takes so many in a call and fails
-    /// at one, and why it doesn't take more.
-    fn told(
+    /// Whether a sink takes this of the report, and why it doesn't take more.
+    fn is_told(
         &self,
-        alloc: Global,
-        room: u32,
-        most: u32,
-        failing: u64,
-    ) -> Result<(Vec<u8>, &'static str), Fail> {
-        let layout = self.layout(alloc)?;
-        let ends = self.run_ends(alloc)?;
-        let mut sink = MemSink::new(alloc, room, most)?;
-        sink.fail_at(failing)?;
-        let cause = cause_of(report_lines(&layout, &ends, &self.control, &mut sink));
-        Ok((Vec::from_slice(alloc, sink.bytes())?, cause))
+        rt: &(impl AllocGlobal + Abort),
+        sink: Sink,
+        told: &[u8],
+        cause: &str,
+    ) -> Result<(), Fail> {
+        let layout = self.layout(rt.alloc())?;
+        let ends = self.run_ends(rt.alloc())?;
+        takes(rt, &layout, &ends, &self.control, sink, told, cause)?;
+        Ok(())
     }
 
     /// The ends of the run.
     fn run_ends(&self, alloc: Global) -> Result<Ends, Memory> {
-        Ok(Ends {
-            ends: list_of(alloc, self.ends)?,
-            output: list_of(alloc, self.output)?,
-        })
+        let ends = List::from_slice(alloc, self.ends)?;
+        let output = List::from_slice(alloc, self.output)?;
+        Ok(Ends { ends, output })
     }
 
     /// The layout of the run.
     fn layout(&self, alloc: Global) -> Result<Layout, Fail>
         ensures { IfOk result IsLayout }
     {
-        let activations = activations_of(alloc, self.tasks)?;
-        match lawful_layout(alloc, self.streams, self.input_len, activations.as_slice())? {
-            Some(layout) => Ok(layout),
-            None => Err(Fail::from("the activations aren't lawful")),
-        }
+        layout_of(alloc, self.streams, self.input_len, self.tasks)
     }
+}
+
+/// A sink that has room for so many bytes, takes so many in a call and fails at one.
+#[derive(Clone, Copy)]
+struct Sink {
+    room: u32,
+    most: u32,
+    failing: u64,
+}
+
+/// Whether a sink takes this of a report, and why it doesn't take more.
+fn takes(
+    rt: &(impl AllocGlobal + Abort),
+    layout: &Layout,
+    ends: &Ends,
+    control: &ControlEnd,
+    sink: Sink,
+    told: &[u8],
+    cause: &str,
+) -> Result<(), Memory>
+    requires { IsLayout layout.now }
+{
+    let mut taker = MemSink::new(rt.alloc(), sink.room, sink.most)?;
+    taker.fail_at(sink.failing)?;
+    let why = cause_of(report_lines(layout, ends, control, &mut taker));
+    assert!(rt; taker.bytes() == told);
+    assert!(rt; why == cause);
+    Ok(())
 }
 
 /// Whether each run is written and reported so.
 fn all_tell(rt: &(impl AllocGlobal + Abort), rows: &[Told]) -> Result<(), Fail> {
     for (case, written, report) in rows {
         case.writes(rt, *written)?;
-        case.tells(rt, *report)?;
+        case.tells(rt, report.as_bytes())?;
     }
     Ok(())
 }

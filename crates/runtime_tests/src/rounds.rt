@@ -1,26 +1,25 @@
 //! Runs of plans on several workers, round by round and at once: the same ends and output elements as on
 //! one thread, and those that a count by hand gives.
-ghost use Rattle.std.specs.Prelude.{◌≤◌, length};
+ghost use Rattle.std.specs.Prelude.{◌≤◌, IfOk};
 ghost use Rattle.flow_core_laws.specs.IsSound.{IsSound};
 
 mod lasts;
 mod logs;
 mod stealing;
 
+use crate::activations::{activation_of, laid_out, plan_over};
 use crate::rounds::lasts::Lasts;
 use flow_core::{Activation, Claim, Elem, Ends, Plan, TaskEnd, execute_one};
-use lawful_layouts::lawful_layout;
-use os_io::{List, Memory};
+use os_io::Memory;
 use std::alloc::Global;
 use std::process::Abort;
 use std::sync::atomic::{AtomicU32, Ordering};
 use std::test::Fail;
 use std::thread::Threads;
-use stream_match::build;
 use task_workers::{Gate, execute, execute_rounds};
 
 /// How activations stand to one another.
-#[derive(Clone, Copy, Debug)]
+#[derive(Clone, Copy)]
 enum Shape {
     /// Each reads three elements of the input, and moves on by one.
     Windows,
@@ -42,7 +41,7 @@ enum Shape {
 struct Case<'a> {
     shape: Shape,
     activations: u32,
-    input: usize,
+    input: u32,
     some_fail: bool,
     done: u32,
     trapped: u32,
@@ -217,6 +216,15 @@ struct Calls {
     worker: AtomicU32,
 }
 
+impl Calls {
+    fn none() -> Calls {
+        Calls {
+            count: AtomicU32::new(0),
+            worker: AtomicU32::new(0),
+        }
+    }
+}
+
 impl Gate for Calls {
     fn at(&self, worker: u32, _frame: u32) {
         self.count.fetch_add(1, Ordering::SeqCst);
@@ -242,20 +250,29 @@ fn all_run_by_hand<R: Threads + Abort + Sync>(
     cases: &[Case<'_>],
 ) -> Result<(), Fail> {
     for case in cases {
-        let mut input = Vec::new(alloc);
-        for k in 0..case.input {
-            input.push((k % 251) as u8)?;
-        }
-        assert!(rt; input.len() < 65_536);
-        let activations = activations_of(alloc, case)?;
-        let Some(layout) = lawful_layout(alloc, 4, input.len() as u32, activations.as_slice())?
-        else {
-            return Err(Fail::from("the activations aren't lawful"));
-        };
-        let plan = build(alloc, &layout, input.as_slice())?;
+        let plan = plan_of_case(alloc, case)?;
         runs_by_hand(rt, alloc, case, &plan)?;
     }
     Ok(())
+}
+
+/// The plan of a case's activations, where an element of the input is its position modulo 251.
+fn plan_of_case(alloc: Global, case: &Case<'_>) -> Result<Plan, Fail>
+    ensures { IfOk result IsSound }
+{
+    let input = input_of(alloc, case.input)?;
+    let activations = activations_of(alloc, case)?;
+    let layout = laid_out(alloc, 4, case.input, activations)?;
+    plan_over(alloc, &layout, input.as_slice())
+}
+
+/// An input of so many elements.
+fn input_of(alloc: Global, count: u32) -> Result<Vec<u8>, Memory> {
+    let mut input = Vec::new(alloc);
+    for k in 0..count {
+        input.push((k % 251) as u8)?;
+    }
+    Ok(input)
 }
 
 /// Whether a case's plan runs so on one thread and on several workers.
@@ -274,18 +291,33 @@ fn runs_by_hand<R: Threads + Abort + Sync>(
     let one = execute_one(alloc, plan, &bodies)?;
     is_counted(rt, case, &one);
     for workers in [1, 2, 7, 64] {
-        let calls = Calls {
-            count: AtomicU32::new(0),
-            worker: AtomicU32::new(0),
-        };
-        let many = execute_rounds(rt, alloc, plan, &bodies, workers, &calls)?;
-        assert!(rt; many.ends.as_slice() == one.ends.as_slice());
-        assert!(rt; many.output.as_slice() == one.output.as_slice());
-        assert!(rt; calls.worker.load(Ordering::SeqCst) < workers);
-        let ran = case.ended();
-        assert!(rt; u64::from(calls.count.load(Ordering::SeqCst)) == ran);
+        runs_by_rounds(rt, alloc, case, plan, workers, &one)?;
+        runs_at_once(rt, alloc, case, plan, workers, &one)?;
     }
-    runs_at_once(rt, alloc, case, plan, &one)
+    Ok(())
+}
+
+/// Whether workers round by round come to the same, each frame run once.
+fn runs_by_rounds<R: Threads + Abort + Sync>(
+    rt: &R,
+    alloc: Global,
+    case: &Case<'_>,
+    plan: &Plan,
+    workers: u32,
+    one: &Ends,
+) -> Result<(), Memory>
+    requires sound { IsSound plan.now }
+    requires workers { (1 ≤ workers) × (workers ≤ 64) }
+{
+    let bodies = Lasts {
+        plan,
+        some_fail: case.some_fail,
+    };
+    let calls = Calls::none();
+    let many = execute_rounds(rt, alloc, plan, &bodies, workers, &calls)?;
+    is_same(rt, &many, one);
+    were_in_bounds(rt, &calls, case.ended(), workers);
+    Ok(())
 }
 
 /// Whether workers over one table come to the same, each frame run once.
@@ -294,27 +326,33 @@ fn runs_at_once<R: Threads + Abort + Sync>(
     alloc: Global,
     case: &Case<'_>,
     plan: &Plan,
+    workers: u32,
     one: &Ends,
-) -> Result<(), Fail>
-    requires { IsSound plan.now }
+) -> Result<(), Memory>
+    requires sound { IsSound plan.now }
+    requires workers { (1 ≤ workers) × (workers ≤ 64) }
 {
     let bodies = Lasts {
         plan,
         some_fail: case.some_fail,
     };
-    let ran = case.ended();
-    for workers in [1, 2, 7, 64] {
-        let calls = Calls {
-            count: AtomicU32::new(0),
-            worker: AtomicU32::new(0),
-        };
-        let many = execute(rt, alloc, plan, &bodies, workers, &calls)?;
-        assert!(rt; many.ends.as_slice() == one.ends.as_slice());
-        assert!(rt; many.output.as_slice() == one.output.as_slice());
-        assert!(rt; calls.worker.load(Ordering::SeqCst) < workers);
-        assert!(rt; u64::from(calls.count.load(Ordering::SeqCst)) == ran);
-    }
+    let calls = Calls::none();
+    let many = execute(rt, alloc, plan, &bodies, workers, &calls)?;
+    is_same(rt, &many, one);
+    were_in_bounds(rt, &calls, case.ended(), workers);
     Ok(())
+}
+
+/// Whether a run came to the same as another one.
+fn is_same(rt: &impl Abort, many: &Ends, one: &Ends) {
+    assert!(rt; many.ends.as_slice() == one.ends.as_slice());
+    assert!(rt; many.output.as_slice() == one.output.as_slice());
+}
+
+/// Whether so many frames were run, and by no worker past these.
+fn were_in_bounds(rt: &impl Abort, calls: &Calls, ran: u64, workers: u32) {
+    assert!(rt; calls.worker.load(Ordering::SeqCst) < workers);
+    assert!(rt; u64::from(calls.count.load(Ordering::SeqCst)) == ran);
 }
 
 /// The most turns for which a worker is held.
@@ -371,28 +409,13 @@ static MEETINGS: [Case<'static>; 2] = [
 /// Workers run at the same time: each frame is held until all of them were entered.
 #[test]
 fn runs_as_many_frames_at_once_as_workers(rt: HostRuntime) -> Result<(), Fail> {
-    let bytes = [0x00, 0x01, 0x02, 0x03, 0xfc, 0xfd, 0xfe, 0xff];
-    meets_in(&rt, rt.alloc(), &MEETINGS[0], &bytes, 2)?;
-    meets_in(&rt, rt.alloc(), &MEETINGS[1], &[0; 32], 8)
-}
-
-/// Whether all activations of a case were entered before any of them ran.
-fn meets_in<R: Threads + Abort + Sync>(
-    rt: &R,
-    alloc: Global,
-    case: &Case<'_>,
-    input: &[u8],
-    workers: u32,
-) -> Result<(), Fail>
-    requires input { length input.now ≤ 32 }
-    requires workers { (1 ≤ workers) × (workers ≤ 64) }
-{
-    let activations = activations_of(alloc, case)?;
-    let Some(layout) = lawful_layout(alloc, 4, input.len() as u32, activations.as_slice())? else {
-        return Err(Fail::from("the activations aren't lawful"));
-    };
-    let plan = build(alloc, &layout, input)?;
-    meets(rt, alloc, &plan, workers)
+    for case in &MEETINGS {
+        let workers = case.activations;
+        assert!(rt; 1 <= workers && workers <= 64);
+        let plan = plan_of_case(rt.alloc(), case)?;
+        meets(&rt, rt.alloc(), &plan, workers)?;
+    }
+    Ok(())
 }
 
 /// Whether all frames of a plan were entered before any of them ran.
@@ -422,26 +445,49 @@ fn meets<R: Threads + Abort + Sync>(
 
 /// Whether a run came to what was counted by hand.
 fn is_counted(rt: &impl Abort, case: &Case<'_>, ends: &Ends) {
-    let (mut done, mut trapped) = (0u32, 0u32);
-    let (mut over_budget, mut poisoned) = (0u32, 0u32);
-    for end in ends.ends.as_slice() {
-        match end {
-            Some(TaskEnd::Done) => done = done.saturating_add(1),
-            Some(TaskEnd::Trapped { .. }) => trapped = trapped.saturating_add(1),
-            Some(TaskEnd::OverBudget) => over_budget = over_budget.saturating_add(1),
-            Some(TaskEnd::Poisoned { .. }) => poisoned = poisoned.saturating_add(1),
-            None => {}
+    assert!(rt; ends.ends.len() == case.activations as usize);
+    are_so_many(rt, ends.ends.as_slice(), Kind::Done, case.done);
+    are_so_many(rt, ends.ends.as_slice(), Kind::Trapped, case.trapped);
+    are_so_many(rt, ends.ends.as_slice(), Kind::OverBudget, case.over_budget);
+    are_so_many(rt, ends.ends.as_slice(), Kind::Poisoned, case.poisoned);
+    assert!(rt; ends.output.len() == case.output);
+    has_elements(rt, ends.output.as_slice(), case.elements);
+}
+
+/// How an activation ends.
+#[derive(Clone, Copy)]
+enum Kind {
+    Done,
+    Trapped,
+    OverBudget,
+    Poisoned,
+}
+
+/// Whether an end is of a kind.
+fn is_of(end: &Option<TaskEnd>, kind: Kind) -> bool {
+    match kind {
+        Kind::Done => matches!(end, Some(TaskEnd::Done)),
+        Kind::Trapped => matches!(end, Some(TaskEnd::Trapped { .. })),
+        Kind::OverBudget => matches!(end, Some(TaskEnd::OverBudget)),
+        Kind::Poisoned => matches!(end, Some(TaskEnd::Poisoned { .. })),
+    }
+}
+
+/// Whether so many ends are of a kind.
+fn are_so_many(rt: &impl Abort, ends: &[Option<TaskEnd>], kind: Kind, wanted: u32) {
+    let mut count: u32 = 0;
+    for end in ends {
+        if is_of(end, kind) {
+            count = count.saturating_add(1);
         }
     }
-    assert!(rt; ends.ends.len() == case.activations as usize);
-    assert!(rt; done == case.done && trapped == case.trapped);
-    assert!(rt; over_budget == case.over_budget && poisoned == case.poisoned);
-    assert!(rt; ends.output.len() == case.output);
-    for (place, element) in case.elements {
-        assert!(rt;
-            ends.output.as_slice().get(*place) == Some(element),
-            "{place}"
-        );
+    assert!(rt; count == wanted);
+}
+
+/// Whether an output has these elements at these places.
+fn has_elements(rt: &impl Abort, output: &[Option<Elem>], elements: &[(usize, Option<Elem>)]) {
+    for (place, element) in elements {
+        assert!(rt; output.get(*place) == Some(element));
     }
 }
 
@@ -450,11 +496,9 @@ fn activations_of(alloc: Global, case: &Case<'_>) -> Result<Vec<Activation>, Mem
     let mut activations = Vec::new(alloc);
     for number in 0..case.activations {
         let last = case.activations - 1;
-        activations.push(activation(
-            alloc,
-            read_by(case.shape, number, last),
-            written_by(case.shape, number, last),
-        )?)?;
+        let reads = read_by(case.shape, number, last);
+        let writes = written_by(case.shape, number, last);
+        activations.push(activation_of(alloc, &[reads, writes])?)?;
     }
     Ok(activations)
 }
@@ -507,15 +551,4 @@ fn read(stream: u32, horizon: u32, burst: u32) -> Claim {
         burst,
         skip: 0,
     }
-}
-
-fn activation(alloc: Global, reads: Claim, writes: Claim) -> Result<Activation, Memory> {
-    let mut claims = List::new(alloc);
-    claims.push(reads)?;
-    claims.push(writes)?;
-    Ok(Activation {
-        site: 0,
-        captured: List::new(alloc),
-        claims,
-    })
 }

@@ -1,10 +1,14 @@
 //! The element that a starved activation waits for.
 
+ghost use Rattle.stream_match_layouts.specs.Layout.{IsLayout};
+
 use super::Case;
-use crate::literals::{reads, writes};
+use crate::literals::{reads, value, writes};
 use collector::{Missing, first_missing};
-use flow_core::{ControlEnd, Elem, TaskEnd};
+use flow_core::{ControlEnd, Ends, TaskEnd};
+use std::process::Abort;
 use std::test::Fail;
+use stream_match::Layout;
 
 const DONE: Option<TaskEnd> = Some(TaskEnd::Done);
 
@@ -37,7 +41,7 @@ static CASE: Case<'static> = Case {
         &[writes!(1, 1)],
     ],
     ends: &[DONE, DONE, None, DONE, None, None, None, None, DONE],
-    output: &[Some(Elem::Value(0))],
+    output: &[value!(0)],
     control: ControlEnd::Done,
 };
 
@@ -54,11 +58,27 @@ static FOUND: [(u32, Option<Missing>); 7] = [
 
 #[test]
 fn the_first_missing_element_is_found(rt: HostRuntime) -> Result<(), Fail> {
-    let layout = CASE.layout(rt.alloc())?;
-    let ends = CASE.run_ends(rt.alloc())?;
-    for (frame, found) in &FOUND {
-        assert!(rt; *frame < 9 && layout.starts.len() == 10);
-        assert!(rt; first_missing(&layout, &ends, *frame) == *found);
+    finds(&rt, &CASE, &FOUND)
+}
+
+/// Whether these are found in a run.
+fn finds(
+    rt: &(impl AllocGlobal + Abort),
+    case: &Case<'_>,
+    rows: &[(u32, Option<Missing>)],
+) -> Result<(), Fail> {
+    let layout = case.layout(rt.alloc())?;
+    let ends = case.run_ends(rt.alloc())?;
+    for (frame, found) in rows {
+        is_missing(rt, &layout, &ends, *frame, *found);
     }
     Ok(())
+}
+
+/// Whether this is the first missing element of a frame.
+fn is_missing(rt: &impl Abort, layout: &Layout, ends: &Ends, frame: u32, found: Option<Missing>)
+    requires { IsLayout layout.now }
+{
+    assert!(rt; frame as usize + 1 < layout.starts.len());
+    assert!(rt; first_missing(layout, ends, frame) == found);
 }

@@ -1,6 +1,6 @@
 //! Sinks that don't take a whole report.
 
-use super::Case;
+use super::{Case, Sink};
 use crate::literals::{reads, writes};
 use flow_core::ControlEnd;
 use std::test::Fail;
@@ -36,12 +36,13 @@ static SINKS: [(u32, u32, u64, usize, &str); 7] = [
 #[test]
 fn a_report_is_cut_short_by_the_sink_alone(rt: HostRuntime) -> Result<(), Fail> {
     for (room, most, failing, count, cause) in &SINKS {
-        let (told, why) = CASE.told(rt.alloc(), *room, *most, *failing)?;
-        assert!(rt;
-            Some(told.as_slice()) == REPORT.get(..*count),
-            "failing {failing}"
-        );
-        assert!(rt; why == *cause, "failing {failing}");
+        let sink = Sink {
+            room: *room,
+            most: *most,
+            failing: *failing,
+        };
+        let told = &REPORT[..(*count).min(REPORT.len())];
+        CASE.is_told(&rt, sink, told, cause)?;
     }
     Ok(())
 }

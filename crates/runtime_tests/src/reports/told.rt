@@ -1,8 +1,8 @@
 //! The lines of a report, and the bytes before the first gap of an output, or the first poison.
 
 use super::{Case, Told, all_tell};
-use crate::literals::{reads, writes};
-use flow_core::{ControlEnd, Elem, TaskEnd};
+use crate::literals::{poison, reads, value, writes};
+use flow_core::{ControlEnd, TaskEnd};
 use std::test::Fail;
 
 const DONE: Option<TaskEnd> = Some(TaskEnd::Done);
@@ -23,20 +23,6 @@ macro_rules! trapped {
 macro_rules! poisoned {
     ($root:expr) => {
         Some(TaskEnd::Poisoned { root: $root })
-    };
-}
-
-/// An element that is a value.
-macro_rules! value {
-    ($value:expr) => {
-        Some(Elem::Value($value))
-    };
-}
-
-/// An element that is poison.
-macro_rules! poison {
-    ($root:expr) => {
-        Some(Elem::Poison($root))
     };
 }
 
