@@ -1,12 +1,8 @@
 //! What a task captures: for each task the slots in `main` of the scalars that it takes from there, in the order of
 //! their declarations.
 
-use crate::judge::{Judged, judge};
-use std::alloc::Global;
-use std::fmt::Write;
-use std::process::Abort;
+use crate::told::{Told, are_told_so};
 use std::test::Fail;
-use window_check::Checked;
 
 /// Programs with `====` between them, and behind each, under `----`, a line a task with the slots that it captures: nothing, one scalar in
 /// each of two tasks, scalars in the order of their declarations whatever that of their use, `firstprivate` alone, of one that the body
@@ -145,36 +141,7 @@ task 1 2 3 4 5 6 7 8 9 10 11 12 13 14 15 16 17 18 19 20 21 22 23 24 25 26 27 28 
      45 46 47 48 49 50 51 52 53 54 55 56 57 58 59 60 61 62 63 64
 ";
 
-/// What each task captures.
-fn shown(alloc: Global, checked: &Checked) -> Result<String, Fail> {
-    let mut text = String::new(alloc);
-    for slots in checked.captured.as_slice() {
-        write!(&mut text, "task")?;
-        for slot in slots.as_slice() {
-            write!(&mut text, " {slot}")?;
-        }
-        writeln!(&mut text)?;
-    }
-    Ok(text)
-}
-
-/// The program of a case is accepted, and its tasks capture these slots.
-fn captures(rt: &impl Abort, alloc: Global, case: &str) -> Result<(), Fail> {
-    let Some((text, wanted)) = case.split_once("----\n") else {
-        return Err(Fail::from("a program with slots"));
-    };
-    let Judged::Accepted(checked) = judge(alloc, text)? else {
-        return Err(Fail::from("a program without violations"));
-    };
-    let found = shown(alloc, &checked)?;
-    assert!(rt; found.as_str() == wanted, "{found}");
-    Ok(())
-}
-
 #[test]
 fn each_task_captures_what_it_names(rt: HostRuntime) -> Result<(), Fail> {
-    for case in CASES.split("====\n") {
-        captures(&rt, rt.alloc(), case)?;
-    }
-    Ok(())
+    are_told_so(&rt, rt.alloc(), Told::Captured, CASES)
 }

@@ -8,8 +8,6 @@
 #[cfg(test)]
 mod captured;
 #[cfg(test)]
-mod judge;
-#[cfg(test)]
 mod kernel_texts;
 #[cfg(test)]
 mod names;
@@ -17,3 +15,5 @@ mod names;
 mod syntax;
 #[cfg(test)]
 mod tokens;
+#[cfg(test)]
+mod told;

@@ -1,13 +1,8 @@
 //! What each name means, for whole programs: the value of a constant, the number of a function, slots, streams and
 //! items, each beside the place of the name among the tokens.
 
-use crate::judge::{Judged, judge};
-use os_ast::Resolved;
-use std::alloc::Global;
-use std::fmt::Write;
-use std::process::Abort;
+use crate::told::{Told, are_told_so};
 use std::test::Fail;
-use window_check::Checked;
 
 /// Programs with `====` between them, and behind each, under `----`, how many streams it has and what its names mean by their places.
 const CASES: &str = "// A window of three elements that moves by one.
@@ -576,44 +571,13 @@ j = 1;
 37 Scalar(2)
 ";
 
-/// How many streams a program has, and what its names mean.
-fn shown(alloc: Global, checked: &Checked) -> Result<String, Fail> {
-    let mut text = String::new(alloc);
-    writeln!(&mut text, "{} streams", checked.streams)?;
-    for name in checked.names.as_slice() {
-        let Resolved {
-            place,
-            what,
-            unsigned,
-        } = *name;
-        let kind = if unsigned { " unsigned" } else { "" };
-        writeln!(&mut text, "{place} {what:?}{kind}")?;
-    }
-    Ok(text)
-}
-
-/// The program of a case is accepted, with so many streams and with these names.
-fn means(rt: &impl Abort, alloc: Global, case: &str) -> Result<(), Fail> {
-    let Some((text, wanted)) = case.split_once("----\n") else {
-        return Err(Fail::from("a program with names"));
-    };
-    let Judged::Accepted(checked) = judge(alloc, text)? else {
-        return Err(Fail::from("a program without violations"));
-    };
-    let found = shown(alloc, &checked)?;
-    assert!(rt; found.as_str() == wanted, "{found}");
-    Ok(())
-}
-
 #[test]
 fn each_name_means_what_is_declared(rt: HostRuntime) -> Result<(), Fail> {
-    for case in CASES.split("====\n") {
-        means(&rt, rt.alloc(), case)?;
-    }
-    Ok(())
+    are_told_so(&rt, rt.alloc(), Told::Names, CASES)
 }
 
-/// Each name has the type of its declaration, an element or a view that of its scalar or window, or of the stream alone.
+/// Each name has the type of its declaration, an element or a view that of its scalar or window, or of the stream alone. Under
+/// `----` stand the names by their places, each with its type.
 const TYPED: &str = "const unsigned N = -1;
 const int M = 1u;
 int f(unsigned a, int b) { unsigned c[2]; c[a] = b; return c[M] + N; }
@@ -624,10 +588,9 @@ unsigned s __attribute__((stream)), r[2] __attribute__((stream)), x, w[2]; int t
 { y = x + w[0] + t + i + g(); }
 #pragma omp task input(s, osin >> x) output(osout << y)
 y = s + x + osin_len;
-}";
-
-/// The names by their places, each with its type.
-const TYPES: &str = "17 unsigned
+}
+----
+17 unsigned
 20 int
 24 unsigned
 29 unsigned
@@ -669,23 +632,7 @@ const TYPES: &str = "17 unsigned
 177 int
 ";
 
-/// The places of names, each with its type.
-fn types_shown(alloc: Global, names: &[Resolved]) -> Result<String, Fail> {
-    let mut text = String::new(alloc);
-    for name in names {
-        let place = name.place;
-        let kind = if name.unsigned { "unsigned" } else { "int" };
-        writeln!(&mut text, "{place} {kind}")?;
-    }
-    Ok(text)
-}
-
 #[test]
 fn each_name_has_the_type_of_its_declaration(rt: HostRuntime) -> Result<(), Fail> {
-    let Judged::Accepted(checked) = judge(rt.alloc(), TYPED)? else {
-        return Err(Fail::from("a program without violations"));
-    };
-    let found = types_shown(rt.alloc(), checked.names.as_slice())?;
-    assert!(rt; found.as_str() == TYPES, "{found}");
-    Ok(())
+    are_told_so(&rt, rt.alloc(), Told::Types, TYPED)
 }

@@ -5,14 +5,11 @@ mod fronts;
 mod refusals;
 mod shapes;
 mod shown;
-mod trees;
-mod unsigned;
 
-use os_lexer::lex;
+use os_ast::depth;
+use os_lexer::{Token, lex};
 use os_parser::{ParseError, parse};
 use std::alloc::Global;
-use std::process::Abort;
-use std::test::Fail;
 
 /// A token of a kind, in the first line.
 macro_rules! token {
@@ -28,30 +25,26 @@ macro_rules! token {
 
 use token;
 
-/// The place where the tokens of a text are refused, if they mean no program.
-fn place_of(rt: &impl Abort, alloc: Global, text: &str) -> Result<Option<u32>, Fail> {
-    assert!(rt; text.len() <= 262_144);
-    let tokens = lex(alloc, text.as_bytes())?;
-    match parse(alloc, &tokens) {
-        Ok(_) => Ok(None),
-        Err(ParseError::Syntax { place, .. }) => Ok(Some(place)),
-        Err(error) => Err(Fail::from(error)),
+/// What tokens are read as: the depth of their program, or the place where they are refused. It is nothing where there are more than
+/// 262,144 of them, or memory can't be had.
+fn read_tokens(alloc: Global, tokens: &[Token]) -> Option<Result<u32, u32>> {
+    if tokens.len() > 262_144 {
+        return None;
+    }
+    match parse(alloc, tokens) {
+        Ok(program) => Some(Ok(depth(&program))),
+        Err(ParseError::Syntax { place, .. }) => Some(Err(place)),
+        Err(ParseError::Memory) => None,
     }
 }
 
-/// Each text between a head and a tail is refused at its place. The head stands with the number of its tokens, and a text
-/// with the number of its own that are before the refused one.
-fn are_refused(
-    rt: &impl Abort,
-    alloc: Global,
-    (head, before): (&str, u32),
-    texts: &[(&str, u32)],
-    tail: &str,
-) -> Result<(), Fail> {
-    for (text, place) in texts {
-        let whole = format!(in alloc; "{head}{text}{tail}")?;
-        let found = place_of(rt, alloc, &whole)?.and_then(|found| found.checked_sub(before));
-        assert!(rt; found == Some(*place), "{whole}");
+/// What the tokens of a text are read as. It is nothing where the text has a fault, or more than 262,144 bytes.
+fn read(alloc: Global, text: &str) -> Option<Result<u32, u32>> {
+    if text.len() > 262_144 {
+        return None;
     }
-    Ok(())
+    match lex(alloc, text.as_bytes()) {
+        Ok(tokens) => read_tokens(alloc, &tokens),
+        Err(_) => None,
+    }
 }

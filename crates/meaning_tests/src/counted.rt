@@ -6,7 +6,7 @@ use flow_core_laws::ControlEnd;
 pub type Counted = (&'static str, u32, u64, usize, ControlEnd);
 
 /// Each against the limits.
-pub const COUNTED: [Counted; 9] = [
+pub static COUNTED: [Counted; 9] = [
     // 65,536 activations; the next one would pass both limits, and the first counts
     (
         "int main(void) {\nint i, w[64];\nfor (i = 0; i < 65537; i++) {\n#pragma omp task input(osin >> w[0])\n;\n}\n}\n",

@@ -27,6 +27,7 @@ fn accepted(alloc: Global, text: &str) -> Result<Checked, Fail> {
     }
 }
 
+/// Writes a claim.
 fn write_claim(text: &mut String, claim: &Claim) -> Result<(), Fail> {
     let Claim {
         stream,
@@ -43,47 +44,74 @@ fn write_claim(text: &mut String, claim: &Claim) -> Result<(), Fail> {
     Ok(())
 }
 
-fn write_activation(text: &mut String, activation: &Activation) -> Result<(), Fail> {
-    write!(text, "{} [", activation.site)?;
-    for (place, number) in activation.captured.as_slice().iter().enumerate() {
+fn write_captured(text: &mut String, captured: &[i32]) -> Result<(), Fail> {
+    for (place, number) in captured.iter().enumerate() {
         let parted = if place == 0 { "" } else { " " };
         write!(text, "{parted}{number}")?;
     }
-    write!(text, "]")?;
-    for (place, claim) in activation.claims.as_slice().iter().enumerate() {
-        let parted = if place == 0 { "" } else { "," };
-        write!(text, "{parted}")?;
+    Ok(())
+}
+
+fn write_claims(text: &mut String, claims: &[Claim]) -> Result<(), Fail> {
+    for (place, claim) in claims.iter().enumerate() {
+        text.push_str(if place == 0 { "" } else { "," })?;
         write_claim(text, claim)?;
     }
     Ok(())
 }
 
+fn write_activation(text: &mut String, activation: &Activation) -> Result<(), Fail> {
+    write!(text, "{} [", activation.site)?;
+    write_captured(text, activation.captured.as_slice())?;
+    text.push_str("]")?;
+    write_claims(text, activation.claims.as_slice())?;
+    Ok(text.push_str("; ")?)
+}
+
+fn write_end(text: &mut String, end: ControlEnd) -> Result<(), Fail> {
+    match end {
+        ControlEnd::Done => write!(text, "Done")?,
+        ControlEnd::Trapped { code, line } => write!(text, "trapped {code} line {line}")?,
+        ControlEnd::OverBudget => write!(text, "over budget")?,
+        ControlEnd::Limit(limit) => write!(text, "limit {limit}")?,
+    }
+    Ok(())
+}
+
+fn write_control(text: &mut String, control: &Control) -> Result<(), Fail> {
+    for activation in control.activations.as_slice() {
+        write_activation(text, activation)?;
+    }
+    write_end(text, control.end)
+}
+
 fn control_text(alloc: Global, control: &Control) -> Result<String, Fail> {
     let mut text = String::new(alloc);
-    for activation in control.activations.as_slice() {
-        write_activation(&mut text, activation)?;
-        write!(&mut text, "; ")?;
-    }
-    match control.end {
-        ControlEnd::Done => write!(&mut text, "Done")?,
-        ControlEnd::Trapped { code, line } => write!(&mut text, "trapped {code} line {line}")?,
-        ControlEnd::OverBudget => write!(&mut text, "over budget")?,
-        ControlEnd::Limit(limit) => write!(&mut text, "limit {limit}")?,
-    }
+    write_control(&mut text, control)?;
     Ok(text)
+}
+
+fn write_task_end(text: &mut String, end: TaskEnd) -> Result<(), Fail> {
+    match end {
+        TaskEnd::Done => write!(text, "Done")?,
+        TaskEnd::Trapped { code, line } => write!(text, "trapped {code} line {line}")?,
+        TaskEnd::OverBudget => write!(text, "over budget")?,
+        TaskEnd::Poisoned { root } => write!(text, "poisoned by {root}")?,
+    }
+    Ok(())
+}
+
+fn write_body(text: &mut String, end: TaskEnd, outputs: &[i32]) -> Result<(), Fail> {
+    write_task_end(text, end)?;
+    for number in outputs {
+        write!(text, " {number}")?;
+    }
+    Ok(())
 }
 
 fn body_text(alloc: Global, end: TaskEnd, outputs: &[i32]) -> Result<String, Fail> {
     let mut text = String::new(alloc);
-    match end {
-        TaskEnd::Done => write!(&mut text, "Done")?,
-        TaskEnd::Trapped { code, line } => write!(&mut text, "trapped {code} line {line}")?,
-        TaskEnd::OverBudget => write!(&mut text, "over budget")?,
-        TaskEnd::Poisoned { root } => write!(&mut text, "poisoned by {root}")?,
-    }
-    for number in outputs {
-        write!(&mut text, " {number}")?;
-    }
+    write_body(&mut text, end, outputs)?;
     Ok(text)
 }
 
@@ -105,24 +133,49 @@ fn control_of(alloc: Global, program: &Program, run: &str) -> Result<Control, Fa
     Ok(plain_control(alloc, program, number(run, 1), budget)?)
 }
 
+/// What a run comes to.
+fn run_text(alloc: Global, program: &Program, run: &str) -> Result<String, Fail> {
+    let control = control_of(alloc, program, run)?;
+    control_text(alloc, &control)
+}
+
 /// A run comes to what its row shows.
 fn run_holds(rt: &impl Abort, alloc: Global, program: &Program, run: &str) -> Result<(), Fail> {
-    let control = control_of(alloc, program, run)?;
-    let found = control_text(alloc, &control)?;
+    let found = run_text(alloc, program, run)?;
     assert!(rt; found.as_str() == shown(run), "{run}");
     Ok(())
 }
 
-/// The inputs of a body's row.
-fn inputs_of(alloc: Global, body: &str) -> Result<Vec<i32>, Fail> {
-    let mut inputs = Vec::new(alloc);
+fn push_inputs(inputs: &mut Vec<i32>, body: &str) -> Result<(), Fail> {
     for word in body.split_whitespace().skip(3) {
         if word == "=" {
             break;
         }
         inputs.push(word.parse::<i32>().unwrap_or(0))?;
     }
+    Ok(())
+}
+
+/// The inputs of a body's row.
+fn inputs_of(alloc: Global, body: &str) -> Result<Vec<i32>, Fail> {
+    let mut inputs = Vec::new(alloc);
+    push_inputs(&mut inputs, body)?;
     Ok(inputs)
+}
+
+/// What the body of a row comes to.
+fn body_outcome(
+    alloc: Global,
+    program: &Program,
+    control: &Control,
+    body: &str,
+) -> Result<String, Fail> {
+    let Some(activation) = control.activations.as_slice().get(number(body, 1) as usize) else {
+        return Err(Fail::from("an activation"));
+    };
+    let inputs = inputs_of(alloc, body)?;
+    let budget = u64::from(number(body, 2));
+    outcome(alloc, program, activation, inputs.as_slice(), budget)
 }
 
 /// A body comes to what its row shows.
@@ -133,27 +186,44 @@ fn body_holds(
     control: &Control,
     body: &str,
 ) -> Result<(), Fail> {
-    let inputs = inputs_of(alloc, body)?;
-    let Some(activation) = control.activations.as_slice().get(number(body, 1) as usize) else {
-        return Err(Fail::from("an activation"));
-    };
-    let budget = u64::from(number(body, 2));
-    let found = outcome(alloc, program, activation, inputs.as_slice(), budget)?;
+    let found = body_outcome(alloc, program, control, body)?;
     assert!(rt; found.as_str() == shown(body), "{body}");
+    Ok(())
+}
+
+/// A row of a program holds, whose first run comes to this.
+fn row_holds(
+    rt: &impl Abort,
+    alloc: Global,
+    program: &Program,
+    control: &Control,
+    row: &str,
+) -> Result<(), Fail> {
+    if row.starts_with("run ") {
+        run_holds(rt, alloc, program, row)
+    } else {
+        body_holds(rt, alloc, program, control, row)
+    }
+}
+
+/// All these rows of a program hold.
+fn all_hold(
+    rt: &impl Abort,
+    alloc: Global,
+    program: &Program,
+    control: &Control,
+    rows: &str,
+) -> Result<(), Fail> {
+    for row in rows.lines() {
+        row_holds(rt, alloc, program, control, row)?;
+    }
     Ok(())
 }
 
 /// All rows of a program hold.
 fn rows_hold(rt: &impl Abort, alloc: Global, program: &Program, rows: &str) -> Result<(), Fail> {
     let control = control_of(alloc, program, rows)?;
-    for row in rows.lines() {
-        if row.starts_with("run ") {
-            run_holds(rt, alloc, program, row)?;
-        } else {
-            body_holds(rt, alloc, program, &control, row)?;
-        }
-    }
-    Ok(())
+    all_hold(rt, alloc, program, &control, rows)
 }
 
 /// A case holds.
@@ -166,23 +236,38 @@ fn holds(rt: &impl Abort, alloc: Global, case: &str) -> Result<(), Fail> {
 }
 
 /// The outcome of the one activation of a program, which has no inputs.
-fn outcome_of(alloc: Global, text: &str, budget: u64) -> Result<String, Fail> {
-    let checked = accepted(alloc, text)?;
-    let control = plain_control(alloc, &checked.program, 0, 0)?;
+fn alone(alloc: Global, program: &Program, budget: u64) -> Result<String, Fail> {
+    let control = plain_control(alloc, program, 0, 0)?;
     match control.activations.as_slice().first() {
         None => Err(Fail::from("an activation")),
-        Some(activation) => outcome(alloc, &checked.program, activation, &[], budget),
+        Some(activation) => outcome(alloc, program, activation, &[], budget),
     }
+}
+
+/// The outcome of the one activation of the program of a text, which has no inputs.
+fn outcome_of(alloc: Global, text: &str, budget: u64) -> Result<String, Fail> {
+    let checked = accepted(alloc, text)?;
+    alone(alloc, &checked.program, budget)
+}
+
+/// All cases of a table hold.
+fn cases_hold(rt: &impl Abort, alloc: Global, table: &str) -> Result<(), Fail> {
+    for case in table.split("====\n") {
+        holds(rt, alloc, case)?;
+    }
+    Ok(())
 }
 
 #[test]
 fn programs_mean_what_was_worked_out_by_hand(rt: HostRuntime) -> Result<(), Fail> {
-    for table in [PROGRAMS, FLOWS] {
-        for case in table.split("====\n") {
-            holds(&rt, rt.alloc(), case)?;
-        }
-    }
-    Ok(())
+    cases_hold(&rt, rt.alloc(), PROGRAMS)?;
+    cases_hold(&rt, rt.alloc(), FLOWS)
+}
+
+/// The outcome of a body that sets `y`.
+fn body_of_row(alloc: Global, body: &str, budget: u64) -> Result<String, Fail> {
+    let text = format!(in alloc; "{BEFORE}{body}\n}}\n")?;
+    outcome_of(alloc, text.as_str(), budget)
 }
 
 /// A body ends as its row shows.
@@ -190,8 +275,7 @@ fn body_ends(rt: &impl Abort, alloc: Global, row: &str) -> Result<(), Fail> {
     let Some((head, body)) = row.split_once("\n") else {
         return Err(Fail::from("a row with a body"));
     };
-    let text = format!(in alloc; "{BEFORE}{body}\n}}\n")?;
-    let found = outcome_of(alloc, text.as_str(), u64::from(number(head, 0)))?;
+    let found = body_of_row(alloc, body, u64::from(number(head, 0)))?;
     let wanted = head.split_once(" ").map(|(_, wanted)| wanted);
     assert!(rt; Some(found.as_str()) == wanted, "{row}");
     Ok(())
@@ -205,10 +289,15 @@ fn bodies_end_as_was_worked_out_by_hand(rt: HostRuntime) -> Result<(), Fail> {
     Ok(())
 }
 
+/// The outcome of a row of expressions and bodies, which call these functions.
+fn row_outcome(alloc: Global, functions: &str, row: &str) -> Result<String, Fail> {
+    let text = values::row_text(alloc, functions, row)?;
+    outcome_of(alloc, text.as_str(), 5_000)
+}
+
 /// A row of a table of expressions and bodies, which call its functions, has its value.
 fn has_value(rt: &impl Abort, alloc: Global, functions: &str, row: &str) -> Result<(), Fail> {
-    let text = values::row_text(alloc, functions, row)?;
-    let found = outcome_of(alloc, text.as_str(), 5_000)?;
+    let found = row_outcome(alloc, functions, row)?;
     let value = row.split_once(" => ").map(|(_, value)| value);
     assert!(rt; found.as_str().strip_prefix("Done ") == value, "{row}");
     Ok(())

@@ -1,183 +1,207 @@
 //! How deep a program may be, and that the stack holds it.
 
-use super::token;
-use crate::judge::refuses;
-use os_ast::depth;
+use super::{read, token};
 use os_lexer::{Key, Kind, Punct, Token, lex};
 use os_parser::{ParseError, parse};
 use std::alloc::{AllocError, Global};
 use std::process::Abort;
 use std::test::Fail;
 use std::thread;
+use std::thread::Threads;
 
-/// The body of a function: a head, what is repeated before a middle, the middle, what is repeated behind it, and
-/// a tail; how often it may be repeated; and where it is refused when it is repeated once more: which token, counted from
-/// the first one of the last opening piece.
-type Nest = ([&'static str; 5], u32, u32);
+/// The body of a function.
+#[derive(Clone, Copy)]
+struct Nest<'a> {
+    head: &'a str,
+    /// What is repeated before the middle.
+    open: &'a str,
+    middle: &'a str,
+    /// What is repeated behind the middle.
+    close: &'a str,
+    tail: &'a str,
+}
 
-/// Each part that a program nests, with the count at which its depth is 200.
-static NESTS: [Nest; 39] = [
-    (["return ", "(", "1", ")", ";"], 197, 0),
-    (["return ", "- ", "1", "", ";"], 197, 0),
-    (["return ", "f(", "1", ")", ";"], 197, 2),
-    (["return ", "f(1, ", "1", ", 1)", ";"], 197, 2),
-    (["return ", "a[", "1", "]", ";"], 197, 1),
-    (["return ", "a ? ", "1", " : 1", ";"], 197, 1),
-    (["return ", "a ? 1 : ", "1", "", ";"], 197, 1),
-    (["return ", "1 + (", "1", ") * 2", ";"], 197, 2),
-    (["a[", "(", "1", ")", "] = 1;"], 197, 0),
-    (["f(", "(", "1", ")", ");"], 197, 0),
-    (["int a = ", "(", "1", ")", ";"], 197, 0),
-    (["int a[", "(", "1", ")", "];"], 197, 0),
-    (
-        ["int a[", "(", "1", ")", "] __attribute__((stream));"],
-        197,
-        0,
-    ),
-    (["return ", "(", "1", ")", " + 1;"], 197, 0),
-    (["a = ", "(", "1", ")", ";"], 197, 0),
-    (["a += ", "(", "1", ")", ";"], 197, 0),
-    (["++a[", "(", "1", ")", "];"], 197, 0),
-    (["a[", "(", "1", ")", "]--;"], 197, 0),
-    (["if (", "(", "1", ")", ") ;"], 197, 0),
-    (["if (", "(", "1", ")", ") ; else ;"], 197, 0),
-    (["while (", "(", "1", ")", ") ;"], 197, 0),
-    (["for (a = ", "(", "1", ")", ";;) ;"], 197, 0),
-    (["for (a[", "(", "1", ")", "] = 1;;) ;"], 197, 0),
-    (["for (int a = ", "(", "1", ")", ";;) ;"], 197, 0),
-    (["for (;", "(", "1", ")", ";) ;"], 197, 0),
-    (["for (;;a = ", "(", "1", ")", ") ;"], 197, 0),
-    (["for (;;++a[", "(", "1", ")", "]) ;"], 197, 0),
-    (["#pragma omp tick(a[", "(", "1", ")", "] >> 1)"], 197, 0),
-    (["#pragma omp tick(a >> ", "(", "1", ")", ")"], 197, 0),
-    (
-        ["#pragma omp task input(a >> b[", "(", "1", ")", "])\n;"],
-        197,
-        0,
-    ),
-    (
-        ["#pragma omp task input(a[", "(", "1", ")", "] >> b)\n;"],
-        197,
-        0,
-    ),
-    (
-        [
-            "#pragma omp task firstprivate(c) output(a[",
-            "(",
-            "1",
-            ")",
-            "] << b[1])\n;",
-        ],
-        197,
-        0,
-    ),
-    (["", "{", "", "}", ""], 199, 0),
-    (["", "{ a = 1; ", ";", "}", ""], 197, 2),
-    (["", "if (a) ", ";", "", ""], 198, 0),
-    (["", "if (a) ; else ", ";", "", ""], 198, 0),
-    (["", "while (a) ", ";", "", ""], 198, 0),
-    (["", "for (;;) ", ";", "", ""], 198, 0),
-    (["", "\n#pragma omp task\n", ";", "", ""], 198, 2),
-];
+/// Each part that a program nests, a row a line, in which `¶` is a line feed. First stands how often it may be repeated: its depth is 200
+/// then. Behind that stands where it is refused when it is repeated once more: which token, counted from the first one of the last opening
+/// piece. The last are the pieces of the nest.
+const NESTS: &str = "197 0 return |(|1|)|;
+197 0 return |- |1||;
+197 2 return |f(|1|)|;
+197 2 return |f(1, |1|, 1)|;
+197 1 return |a[|1|]|;
+197 1 return |a ? |1| : 1|;
+197 1 return |a ? 1 : |1||;
+197 2 return |1 + (|1|) * 2|;
+197 0 a[|(|1|)|] = 1;
+197 0 f(|(|1|)|);
+197 0 int a = |(|1|)|;
+197 0 int a[|(|1|)|];
+197 0 int a[|(|1|)|] __attribute__((stream));
+197 0 return |(|1|)| + 1;
+197 0 a = |(|1|)|;
+197 0 a += |(|1|)|;
+197 0 ++a[|(|1|)|];
+197 0 a[|(|1|)|]--;
+197 0 if (|(|1|)|) ;
+197 0 if (|(|1|)|) ; else ;
+197 0 while (|(|1|)|) ;
+197 0 for (a = |(|1|)|;;) ;
+197 0 for (a[|(|1|)|] = 1;;) ;
+197 0 for (int a = |(|1|)|;;) ;
+197 0 for (;|(|1|)|;) ;
+197 0 for (;;a = |(|1|)|) ;
+197 0 for (;;++a[|(|1|)|]) ;
+197 0 #pragma omp tick(a[|(|1|)|] >> 1)
+197 0 #pragma omp tick(a >> |(|1|)|)
+197 0 #pragma omp task input(a >> b[|(|1|)|])¶;
+197 0 #pragma omp task input(a[|(|1|)|] >> b)¶;
+197 0 #pragma omp task firstprivate(c) output(a[|(|1|)|] << b[1])¶;
+199 0 |{||}|
+197 2 |{ a = 1; |;|}|
+198 0 |if (a) |;||
+198 0 |if (a) ; else |;||
+198 0 |while (a) |;||
+198 0 |for (;;) |;||
+198 2 |¶#pragma omp task¶|;||";
 
 /// What stands before a nest.
 const FUNCTION: &str = "int main(void) {\n";
 
-fn text_of(alloc: Global, pieces: &[&str; 5], count: u32) -> Result<String, AllocError> {
-    let [head, open, middle, close, tail] = *pieces;
-    let mut text = String::from_str(alloc, FUNCTION)?;
-    text.push_str(head)?;
+fn put_often(text: &mut String, piece: &str, count: u32) -> Result<(), AllocError> {
     for _ in 0..count {
-        text.push_str(open)?;
+        text.push_str(piece)?;
     }
-    text.push_str(middle)?;
-    for _ in 0..count {
-        text.push_str(close)?;
-    }
-    text.push_str(tail)?;
-    text.push_str("\n}")?;
+    Ok(())
+}
+
+fn put_nest(text: &mut String, nest: &Nest<'_>, count: u32) -> Result<(), AllocError> {
+    text.push_str(FUNCTION)?;
+    text.push_str(nest.head)?;
+    put_often(text, nest.open, count)?;
+    text.push_str(nest.middle)?;
+    put_often(text, nest.close, count)?;
+    text.push_str(nest.tail)?;
+    text.push_str("\n}")
+}
+
+fn text_of(alloc: Global, nest: &Nest<'_>, count: u32) -> Result<String, AllocError> {
+    let mut text = String::new(alloc);
+    put_nest(&mut text, nest, count)?;
     Ok(text)
 }
 
-/// The depth of the program of a text, or the place where it is refused.
-fn depth_of(rt: &impl Abort, alloc: Global, text: &str) -> Result<u32, u32> {
-    assert!(rt; text.len() <= 262_144);
-    let tokens = lex(alloc, text.as_bytes()).expect(rt, "tokens");
-    match parse(alloc, &tokens) {
-        Ok(program) => Ok(depth(&program)),
-        Err(ParseError::Syntax { place, .. }) => Err(place),
-        Err(ParseError::Memory) => {
-            assert!(rt; false);
-            Err(0)
+/// How often the nest of a row may be repeated, and which token is refused then, with what stands behind these.
+fn numbers_of(row: &str) -> Option<(u32, u32, &str)> {
+    let (most, row) = row.split_once(" ")?;
+    let (token, row) = row.split_once(" ")?;
+    Some((most.parse::<u32>().ok()?, token.parse::<u32>().ok()?, row))
+}
+
+/// The nest whose pieces are these.
+fn nest_of(pieces: &str) -> Option<Nest<'_>> {
+    let (head, pieces) = pieces.split_once("|")?;
+    let (open, pieces) = pieces.split_once("|")?;
+    let (middle, pieces) = pieces.split_once("|")?;
+    let (close, tail) = pieces.split_once("|")?;
+    Some(Nest {
+        head,
+        open,
+        middle,
+        close,
+        tail,
+    })
+}
+
+/// How many tokens begin before a place in their text.
+fn count_before(tokens: &[Token], before: usize) -> u32 {
+    let mut count: u32 = 0;
+    for token in tokens {
+        if (token.start as usize) < before {
+            count = count.saturating_add(1);
         }
+    }
+    count
+}
+
+/// How many tokens of a text begin before a place.
+fn tokens_before(alloc: Global, text: &str, before: usize) -> u32 {
+    if text.len() > 262_144 {
+        return 0;
+    }
+    match lex(alloc, text.as_bytes()) {
+        Ok(tokens) => count_before(&tokens, before),
+        Err(_) => 0,
     }
 }
 
-/// How many tokens of the text of a nest begin before its last opening piece.
-fn tokens_before(
+/// Where the last opening piece of a nest begins that is repeated once more than so often.
+fn last_opening(nest: &Nest<'_>, most: u32) -> usize {
+    let opened = nest.open.len().saturating_mul(most as usize);
+    FUNCTION
+        .len()
+        .saturating_add(nest.head.len())
+        .saturating_add(opened)
+}
+
+/// The program of a nest has a depth of 200.
+fn is_read(rt: &impl Abort, alloc: Global, nest: &Nest<'_>, most: u32) -> Result<(), Fail> {
+    let text = text_of(alloc, nest, most)?;
+    assert!(rt; read(alloc, &text) == Some(Ok(200)), "{text}");
+    Ok(())
+}
+
+/// It is read in a thread, whose stack has the size that threads have where none is asked for.
+fn a_thread_reads<R: Threads + Abort>(
+    rt: &R,
+    alloc: Global,
+    nest: &Nest<'_>,
+    most: u32,
+) -> Result<(), Fail> {
+    let text = text_of(alloc, nest, most)?;
+    let reader = thread::spawn(rt, move || read(alloc, text.as_str()))?;
+    assert!(rt; reader.join(rt) == Some(Ok(200)));
+    Ok(())
+}
+
+/// A nest that is repeated once more than it may be is refused at its token.
+fn is_refused(
     rt: &impl Abort,
     alloc: Global,
-    text: &str,
-    pieces: &[&str; 5],
-    count: u32,
-) -> Result<u32, Fail> {
-    assert!(rt; text.len() <= 262_144);
-    let [head, open, _, _, _] = *pieces;
-    let opened = open.len().saturating_mul(count as usize);
-    let before = FUNCTION
-        .len()
-        .saturating_add(head.len())
-        .saturating_add(opened);
-    let mut tokens: u32 = 0;
-    for token in &lex(alloc, text.as_bytes())? {
-        if (token.start as usize) < before {
-            tokens = tokens.saturating_add(1);
-        }
-    }
-    Ok(tokens)
-}
-
-#[test]
-fn a_depth_of_200_is_read(rt: HostRuntime) -> Result<(), Fail> {
-    for (pieces, most, _) in &NESTS {
-        let text = text_of(rt.alloc(), pieces, *most)?;
-        assert!(rt;
-            depth_of(&rt, rt.alloc(), text.as_str()) == Ok(200),
-            "{text}"
-        );
-    }
+    nest: &Nest<'_>,
+    (most, token): (u32, u32),
+) -> Result<(), Fail> {
+    let text = text_of(alloc, nest, most.saturating_add(1))?;
+    let before = tokens_before(alloc, &text, last_opening(nest, most));
+    let found = read(alloc, &text);
+    assert!(rt; found == Some(Err(before.saturating_add(token))), "{text}");
     Ok(())
 }
 
-#[test]
-fn the_first_token_that_is_too_deep_is_refused(rt: HostRuntime) -> Result<(), Fail> {
-    for (pieces, most, token) in &NESTS {
-        assert!(rt; *most < 200);
-        let text = text_of(rt.alloc(), pieces, *most + 1)?;
-        let before = tokens_before(&rt, rt.alloc(), &text, pieces, *most)?;
-        let place = before.saturating_add(*token);
-        assert!(rt;
-            depth_of(&rt, rt.alloc(), text.as_str()) == Err(place),
-            "{text}"
-        );
-    }
-    Ok(())
+/// The nest of a row, whose line feeds are there, is as deep as it may be.
+fn is_deepest<R: Threads + Abort>(rt: &R, alloc: Global, row: &str) -> Result<(), Fail> {
+    let Some((most, token, pieces)) = numbers_of(row) else {
+        return Err(Fail::from("a row with two numbers"));
+    };
+    let Some(nest) = nest_of(pieces) else {
+        return Err(Fail::from("a row with five pieces"));
+    };
+    is_read(rt, alloc, &nest, most)?;
+    a_thread_reads(rt, alloc, &nest, most)?;
+    is_refused(rt, alloc, &nest, (most, token))
 }
 
-/// The 198th parenthesis behind a `return` is too deep, and its line is told.
-#[test]
-fn a_token_that_is_too_deep_is_refused_in_its_line(rt: HostRuntime) -> Result<(), Fail> {
-    let text = text_of(rt.alloc(), &["return\n", "(\n", "", "", ""], 198)?;
-    refuses(&rt, rt.alloc(), &[(text.as_str(), 4, 200)])
+/// The nest of a row is as deep as it may be.
+fn holds<R: Threads + Abort>(rt: &R, alloc: Global, row: &str) -> Result<(), Fail> {
+    let row = row.replace(alloc, "¶", "\n")?;
+    is_deepest(rt, alloc, &row)
 }
 
-/// Reads a text in a thread, whose stack has the size that threads have where none is asked for.
 #[test]
-fn a_thread_reads_a_depth_of_200(rt: HostRuntime) -> Result<(), Fail> {
-    for (pieces, most, _) in &NESTS {
-        let text = text_of(rt.alloc(), pieces, *most)?;
-        let reader = thread::spawn(&rt, move || depth_of(&rt, rt.alloc(), text.as_str()))?;
-        assert!(rt; reader.join(&rt) == Ok(200));
+fn a_depth_of_200_is_read_and_the_first_token_that_is_too_deep_refused(
+    rt: HostRuntime,
+) -> Result<(), Fail> {
+    for row in NESTS.lines() {
+        holds(&rt, rt.alloc(), row)?;
     }
     Ok(())
 }
@@ -212,11 +236,21 @@ fn many_open_parentheses_are_refused(rt: HostRuntime) -> Result<(), Fail> {
     Ok(())
 }
 
+/// What a chain grows by.
+const CHAIN: Nest<'static> = Nest {
+    head: "return ",
+    open: "",
+    middle: "1",
+    close: "+1",
+    tail: ";",
+};
+
 /// A chain adds nothing to the depth of its operands, however long it is.
 #[test]
 fn a_long_chain_is_no_deeper(rt: HostRuntime) -> Result<(), Fail> {
-    let pieces = ["return ", "", "1", "+1", ";"];
-    let text = text_of(rt.alloc(), &pieces, 131_000)?;
-    assert!(rt; depth_of(&rt, rt.alloc(), text.as_str()) == Ok(3));
+    for count in [0, 131_000] {
+        let text = text_of(rt.alloc(), &CHAIN, count)?;
+        assert!(rt; read(rt.alloc(), &text) == Some(Ok(3)), "{count} links");
+    }
     Ok(())
 }

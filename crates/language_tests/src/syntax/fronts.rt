@@ -3,19 +3,22 @@
 use os_lexer::lex;
 use os_parser::is_front;
 use std::alloc::Global;
-use std::process::Abort;
 use std::test::Fail;
 
-/// Whether some program begins with the tokens of a text.
-fn begins(rt: &impl Abort, alloc: Global, text: &str) -> Result<bool, Fail> {
-    assert!(rt; text.len() <= 262_144);
-    let tokens = lex(alloc, text.as_bytes())?;
-    Ok(is_front(alloc, &tokens)?)
+/// Whether some program begins with the tokens of a text. It is nothing where the text has a fault, or memory can't be had.
+fn begins(alloc: Global, text: &str) -> Option<bool> {
+    if text.len() > 262_144 {
+        return None;
+    }
+    match lex(alloc, text.as_bytes()) {
+        Ok(tokens) => is_front(alloc, &tokens).ok(),
+        Err(_) => None,
+    }
 }
 
 #[test]
 fn a_front_of_a_program_is_told(rt: HostRuntime) -> Result<(), Fail> {
-    assert!(rt; begins(&rt, rt.alloc(), "int main(void) {")?);
-    assert!(rt; !begins(&rt, rt.alloc(), "}")?);
+    assert!(rt; begins(rt.alloc(), "int main(void) {") == Some(true));
+    assert!(rt; begins(rt.alloc(), "}") == Some(false));
     Ok(())
 }

@@ -1,14 +1,15 @@
 //! Control programs with many activations, and the kernels over a thousand bytes.
 
 use super::accepted;
-use crate::counted::COUNTED;
+use crate::counted::{COUNTED, Counted};
 use cddf_meaning_plain::{plain_body, plain_control};
-use flow_core_laws::{Claim, ControlEnd, TaskEnd};
+use flow_core_laws::{Activation, Claim, ControlEnd, TaskEnd};
+use os_ast::Program;
 use std::alloc::Global;
 use std::process::Abort;
 use std::test::Fail;
 
-const KERNELS: [(&str, usize); 5] = [
+static KERNELS: [(&str, usize); 5] = [
     (
         "const int B = 4;\nint main(void) {\nint i;\nfor (i = 0; i < osin_len; i += B) {\n\
          int n = osin_len - i < B ? osin_len - i : B;\nint a[n], b[n];\n\
@@ -45,31 +46,104 @@ const KERNELS: [(&str, usize); 5] = [
     ),
 ];
 
-/// Bytes for the input items of an activation.
-fn inputs(alloc: Global, claims: &[Claim]) -> Result<Vec<i32>, Fail> {
-    let mut inputs = Vec::new(alloc);
+/// Adds so many bytes, from one on.
+fn push_bytes(inputs: &mut Vec<i32>, first: u8, count: u32) -> Result<u8, Fail> {
+    let mut next = first;
+    for _ in 0..count {
+        inputs.push(i32::from(next))?;
+        next = next.wrapping_add(37);
+    }
+    Ok(next)
+}
+
+/// Adds bytes for the input items of an activation.
+fn push_inputs(inputs: &mut Vec<i32>, claims: &[Claim]) -> Result<(), Fail> {
     let mut next: u8 = 0;
     for claim in claims {
         if !claim.write {
-            for _i in 0..claim.horizon {
-                inputs.push(i32::from(next))?;
-                next = next.wrapping_add(37);
-            }
+            next = push_bytes(inputs, next, claim.horizon)?;
         }
     }
+    Ok(())
+}
+
+/// Bytes for the input items of an activation.
+fn inputs(alloc: Global, claims: &[Claim]) -> Result<Vec<i32>, Fail> {
+    let mut inputs = Vec::new(alloc);
+    push_inputs(&mut inputs, claims)?;
     Ok(inputs)
+}
+
+/// How many activations a program has, and how its control program ends.
+fn count_of(
+    alloc: Global,
+    text: &str,
+    input_len: u32,
+    budget: u64,
+) -> Result<(usize, ControlEnd), Fail> {
+    let checked = accepted(alloc, text)?;
+    let control = plain_control(alloc, &checked.program, input_len, budget)?;
+    Ok((control.activations.len(), control.end))
+}
+
+/// A row holds.
+fn counts_so(rt: &impl Abort, alloc: Global, row: &Counted) -> Result<(), Fail> {
+    let (text, input_len, budget, count, end) = *row;
+    let found = count_of(alloc, text, input_len, budget)?;
+    assert!(rt; found == (count, end), "budget {budget} of {text}");
+    Ok(())
+}
+
+/// Each row of a table holds.
+fn all_count_so(rt: &impl Abort, alloc: Global, rows: &[Counted]) -> Result<(), Fail> {
+    for row in rows {
+        counts_so(rt, alloc, row)?;
+    }
+    Ok(())
 }
 
 #[test]
 fn activations_are_counted(rt: HostRuntime) -> Result<(), Fail> {
-    for (text, input_len, budget, count, end) in &COUNTED {
-        let checked = accepted(rt.alloc(), *text)?;
-        let control = plain_control(rt.alloc(), &checked.program, *input_len, *budget)?;
-        assert!(rt;
-            control.activations.len() == *count,
-            "budget {budget} of {text}"
-        );
-        assert!(rt; control.end == *end, "budget {budget} of {text}");
+    all_count_so(&rt, rt.alloc(), &COUNTED)
+}
+
+/// Whether the body of an activation is done, and writes something.
+fn is_done(alloc: Global, program: &Program, activation: &Activation) -> Result<bool, Fail> {
+    let given = inputs(alloc, activation.claims.as_slice())?;
+    let (end, outputs) = plain_body(alloc, program, activation, given.as_slice(), 1_000)?;
+    Ok(end == TaskEnd::Done && !outputs.is_empty())
+}
+
+/// Whether the bodies of all activations are done, and write something.
+fn all_done(alloc: Global, program: &Program, activations: &[Activation]) -> Result<bool, Fail> {
+    for activation in activations {
+        if !is_done(alloc, program, activation)? {
+            return Ok(false);
+        }
+    }
+    Ok(true)
+}
+
+/// How many activations a program has over a thousand bytes, where it and all their bodies are done.
+fn done_of(alloc: Global, program: &Program) -> Result<Option<usize>, Fail> {
+    let control = plain_control(alloc, program, 1_000, 100_000)?;
+    let activations = control.activations.as_slice();
+    let done = control.end == ControlEnd::Done && all_done(alloc, program, activations)?;
+    Ok(done.then_some(activations.len()))
+}
+
+/// A kernel has so many activations over a thousand bytes, and all are done.
+fn kernel_is_done(rt: &impl Abort, alloc: Global, text: &str, count: usize) -> Result<(), Fail> {
+    let checked = accepted(alloc, text)?;
+    let found = done_of(alloc, &checked.program)?;
+    assert!(rt; found == Some(count), "{text}");
+    Ok(())
+}
+
+/// Each kernel has so many activations over a thousand bytes, and all are done.
+fn kernels_are_done(rt: &impl Abort, alloc: Global, kernels: &[(&str, usize)]) -> Result<(), Fail> {
+    for (text, count) in kernels {
+        kernel_is_done(rt, alloc, *text, *count)?;
     }
     Ok(())
 }
@@ -77,23 +151,5 @@ fn activations_are_counted(rt: HostRuntime) -> Result<(), Fail> {
 /// Each body of the kernels over a thousand bytes is done, and fills its windows.
 #[test]
 fn kernels_are_done_over_a_thousand_bytes(rt: HostRuntime) -> Result<(), Fail> {
-    for (text, count) in &KERNELS {
-        let checked = accepted(rt.alloc(), *text)?;
-        let control = plain_control(rt.alloc(), &checked.program, 1_000, 100_000)?;
-        assert!(rt; control.activations.len() == *count, "{text}");
-        assert!(rt; control.end == ControlEnd::Done, "{text}");
-        for activation in control.activations.as_slice() {
-            let given = inputs(rt.alloc(), activation.claims.as_slice())?;
-            let (end, outputs) = plain_body(
-                rt.alloc(),
-                &checked.program,
-                activation,
-                given.as_slice(),
-                1_000,
-            )?;
-            assert!(rt; end == TaskEnd::Done, "{text}");
-            assert!(rt; !outputs.is_empty(), "{text}");
-        }
-    }
-    Ok(())
+    kernels_are_done(&rt, rt.alloc(), &KERNELS)
 }
