@@ -1,61 +1,70 @@
 //! Each body of the tables beside what it means.
 
+ghost use Rattle.std.specs.Prelude.{◌≤◌};
+
 use crate::beside::whole_beside;
 use crate::statements::{BEFORE as ITEMS, STATEMENTS};
+use crate::texts::push;
 use meaning_tests::bodies::{BEFORE, BODIES};
 use meaning_tests::values::row_text;
 use meaning_tests::{unsigned_values, values};
 use std::alloc::Global;
 use std::process::Abort;
-use std::test::Fail;
+
+/// A body behind the lines before it ends as it means, round the budgets that just suffice.
+fn body_beside(rt: &impl Abort, alloc: Global, before: &str, body: &str, input_len: u32)
+    requires { input_len ≤ 4194304 }
+{
+    let mut text = String::new(alloc);
+    push(rt, &mut text, before, 1);
+    push(rt, &mut text, body, 1);
+    push(rt, &mut text, "\n}\n", 1);
+    whole_beside(rt, alloc, text.as_str(), input_len);
+}
 
 /// The bodies end as they mean, round the budgets that just suffice.
 #[test]
-fn statements_of_each_form_end_as_they_mean(rt: HostRuntime) -> Result<(), Fail> {
+fn statements_of_each_form_end_as_they_mean(rt: HostRuntime) {
     for body in STATEMENTS.split("====\n") {
-        let text = format!(in rt.alloc(); "{ITEMS}{body}\n}}\n")?;
-        whole_beside(&rt, rt.alloc(), text.as_str(), 9)?;
+        body_beside(&rt, rt.alloc(), ITEMS, body, 9);
     }
-    Ok(())
 }
 
-/// The bodies of a table end as they mean. A row has the budget and the end of a body too, on a line before it.
-fn bodies_beside(rt: &impl Abort, alloc: Global, table: &str) -> Result<(), Fail> {
-    for row in table.split("\n\n") {
-        let body = row.split_once("\n").map_or("", |(_, body)| body);
-        let text = format!(in alloc; "{BEFORE}{body}\n}}\n")?;
-        whole_beside(rt, alloc, text.as_str(), 0)?;
-    }
-    Ok(())
-}
-
+/// The bodies of the table end as they mean. A row has the budget and the end of a body too, on a line before it.
 #[test]
-fn bodies_worked_out_by_hand_end_as_they_mean(rt: HostRuntime) -> Result<(), Fail> {
-    bodies_beside(&rt, rt.alloc(), BODIES)
+fn bodies_worked_out_by_hand_end_as_they_mean(rt: HostRuntime) {
+    for row in BODIES.split("\n\n") {
+        let body = row.split_once("\n").map_or("", |(_, body)| body);
+        body_beside(&rt, rt.alloc(), BEFORE, body, 0);
+    }
 }
 
-/// The expressions and bodies of a table end as they mean; it has their values too.
-fn values_beside(rt: &impl Abort, alloc: Global, functions: &str, table: &str) -> Result<(), Fail> {
+/// The expression or the body of a row ends as it means; the row has its value too.
+fn value_beside(rt: &impl Abort, alloc: Global, functions: &str, row: &str) {
+    let text = row_text(alloc, functions, row).expect(rt, "memory");
+    whole_beside(rt, alloc, text.as_str(), 0);
+}
+
+/// The expressions and bodies of a table end as they mean.
+fn values_beside(rt: &impl Abort, alloc: Global, functions: &str, table: &str) {
     for row in table.lines() {
         if !row.starts_with("//") {
-            let text = row_text(alloc, functions, row)?;
-            whole_beside(rt, alloc, text.as_str(), 0)?;
+            value_beside(rt, alloc, functions, row);
         }
     }
-    Ok(())
 }
 
 #[test]
-fn expressions_have_the_values_of_their_meaning(rt: HostRuntime) -> Result<(), Fail> {
-    values_beside(&rt, rt.alloc(), values::FUNCTIONS, values::TABLE)
+fn expressions_have_the_values_of_their_meaning(rt: HostRuntime) {
+    values_beside(&rt, rt.alloc(), values::FUNCTIONS, values::TABLE);
 }
 
 #[test]
-fn expressions_of_unsigned_have_the_values_of_their_meaning(rt: HostRuntime) -> Result<(), Fail> {
+fn expressions_of_unsigned_have_the_values_of_their_meaning(rt: HostRuntime) {
     values_beside(
         &rt,
         rt.alloc(),
         unsigned_values::FUNCTIONS,
         unsigned_values::TABLE,
-    )
+    );
 }

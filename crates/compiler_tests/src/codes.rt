@@ -6,12 +6,12 @@
 //! of slot 1.
 
 use crate::compiled::compile;
-use os_code::{Code, Site};
+use crate::texts::push;
+use os_code::{Code, Instr, Site, SiteItem, Unit};
 use std::alloc::Global;
 use std::process::Abort;
-use std::test::Fail;
 
-const CODES: [(&str, &str); 9] = [
+static CODES: [(&str, &str); 9] = [
     // `main` alone
     ("int main(void) {\n}\n", "End; | 0 1 1 1 |"),
     // a branch that leaves, and what a function does at its end
@@ -67,54 +67,67 @@ const CODES: [(&str, &str); 9] = [
     ),
 ];
 
-fn write_site(text: &mut String, site: &Site) -> Result<(), Fail> {
-    write!(text, " {} line {} [", site.unit, site.line)?;
-    for (place, slot) in site.captured.as_slice().iter().enumerate() {
-        let parted = if place == 0 { "" } else { " " };
-        write!(text, "{parted}{slot}")?;
+fn write_instrs(rt: &impl Abort, text: &mut String, instrs: &[Instr]) {
+    for instr in instrs {
+        write!(text, "{instr:?}; ").expect(rt, "memory");
     }
-    write!(text, "]")?;
-    for item in site.items.as_slice() {
-        let way = if item.write { "w" } else { "r" };
-        write!(text, " {way} {}", item.stream)?;
-        if let Some(slot) = item.window {
-            write!(text, " {slot}")?;
-        }
-    }
-    write!(text, " |")?;
-    Ok(())
 }
 
-fn code_text(alloc: Global, code: &Code) -> Result<String, Fail> {
-    let mut text = String::new(alloc);
-    for instr in code.instrs.as_slice() {
-        write!(&mut text, "{instr:?}; ")?;
+fn write_unit(rt: &impl Abort, text: &mut String, unit: &Unit) {
+    let Unit {
+        start,
+        args,
+        slots,
+        stack,
+    } = *unit;
+    write!(text, " {start} {args} {slots} {stack} |").expect(rt, "memory");
+}
+
+fn write_item(rt: &impl Abort, text: &mut String, item: &SiteItem) {
+    let way = if item.write { "w" } else { "r" };
+    write!(text, " {way} {}", item.stream).expect(rt, "memory");
+    if let Some(slot) = item.window {
+        write!(text, " {slot}").expect(rt, "memory");
     }
-    write!(&mut text, "|")?;
+}
+
+fn write_site(rt: &impl Abort, text: &mut String, site: &Site) {
+    let captured = site.captured.as_slice();
+    write!(text, " {} line {} {captured:?}", site.unit, site.line).expect(rt, "memory");
+    for item in site.items.as_slice() {
+        write_item(rt, text, item);
+    }
+    push(rt, text, " |", 1);
+}
+
+fn code_text(rt: &impl Abort, alloc: Global, code: &Code) -> String {
+    let mut text = String::new(alloc);
+    write_instrs(rt, &mut text, code.instrs.as_slice());
+    push(rt, &mut text, "|", 1);
     for unit in code.units.as_slice() {
-        write!(
-            &mut text,
-            " {} {} {} {} |",
-            unit.start, unit.args, unit.slots, unit.stack
-        )?;
+        write_unit(rt, &mut text, unit);
     }
     for site in code.sites.as_slice() {
-        write_site(&mut text, site)?;
+        write_site(rt, &mut text, site);
     }
-    Ok(text)
+    text
 }
 
-/// Each text of a table is compiled to the code beside it.
-fn are_compiled_so(rt: &impl Abort, alloc: Global, rows: &[(&str, &str)]) -> Result<(), Fail> {
-    for (text, shown) in rows {
-        let compiled = compile(rt, alloc, *text)?;
-        let found = code_text(alloc, &compiled.code)?;
-        assert!(rt; found.as_str() == *shown, "{text}");
-    }
-    Ok(())
+/// Whether a code is shown so.
+fn is_shown_so(rt: &impl Abort, alloc: Global, code: &Code, shown: &str) -> bool {
+    let text = code_text(rt, alloc, code);
+    text.as_str() == shown
+}
+
+/// The text is compiled to the code beside it.
+fn is_compiled_so(rt: &impl Abort, alloc: Global, text: &str, shown: &str) {
+    let compiled = compile(rt, alloc, text);
+    assert!(rt; is_shown_so(rt, alloc, &compiled.code, shown), "{text}");
 }
 
 #[test]
-fn codes_are_those_that_were_written_out(rt: HostRuntime) -> Result<(), Fail> {
-    are_compiled_so(&rt, rt.alloc(), &CODES)
+fn codes_are_those_that_were_written_out(rt: HostRuntime) {
+    for (text, shown) in &CODES {
+        is_compiled_so(&rt, rt.alloc(), *text, *shown);
+    }
 }

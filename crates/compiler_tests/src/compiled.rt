@@ -1,6 +1,6 @@
 //! A program with its code.
 
-use front_end::{TextError, read_program};
+use front_end::read_program;
 use lowering::lower;
 use os_code::Code;
 use std::alloc::Global;
@@ -14,14 +14,20 @@ pub(crate) struct Compiled {
     pub code: Code,
 }
 
-/// The program of a text, compiled.
-pub(crate) fn compile(rt: &impl Abort, alloc: Global, text: &str) -> Result<Compiled, TextError> {
+/// The program of a text that violates no rule.
+fn checked(rt: &impl Abort, alloc: Global, text: &str) -> Checked {
     assert!(rt; text.len() <= 262_144);
-    let answer = read_program(alloc, text.as_bytes());
-    assert!(rt; answer.is_ok(), "{text}");
-    let checked = answer?;
-    match lower(alloc, &checked) {
-        Ok(code) => Ok(Compiled { checked, code }),
-        Err(_) => Err(TextError::Memory),
-    }
+    read_program(alloc, text.as_bytes()).expect(rt, text)
+}
+
+/// The program of a text, compiled.
+pub(crate) fn compile(rt: &impl Abort, alloc: Global, text: &str) -> Compiled {
+    let checked = checked(rt, alloc, text);
+    let code = lower(alloc, &checked).expect(rt, "a code");
+    Compiled { checked, code }
+}
+
+/// How many instructions the program of a text has.
+pub(crate) fn instructions_of(rt: &impl Abort, alloc: Global, text: &str) -> usize {
+    compile(rt, alloc, text).code.instrs.len()
 }

@@ -1,10 +1,10 @@
 //! Each control program of the tables beside what it means.
 
-ghost use Rattle.std.specs.Prelude.{All, IfOk};
+ghost use Rattle.std.specs.Prelude.{All};
 ghost use Rattle.os_code.specs.Codes.{parts_of};
 ghost use Rattle.os_code.specs.Tasks.{Fits};
 
-use crate::beside::{bodies_beside, control_beside, whole_beside};
+use crate::beside::{bodies_beside, control_beside, runs_as_it_means, whole_beside};
 use crate::compiled::{Compiled, compile};
 use crate::programs::PROGRAMS;
 use control_run::run_control;
@@ -15,108 +15,91 @@ use meaning_tests::flows::FLOWS;
 use meaning_tests::programs::PROGRAMS as WORKED;
 use std::alloc::Global;
 use std::process::Abort;
-use std::test::Fail;
 
 /// The most that a budget may be.
-const MOST: u64 = 1_000_000_000;
+const MOST: u32 = 1_000_000_000;
 /// The longest input.
 const LONGEST: u32 = 4_194_304;
 
 /// What the control program of a run's row makes.
-fn run_beside(
-    rt: &impl Abort,
-    alloc: Global,
-    compiled: &Compiled,
-    run: &str,
-) -> Result<Control, Fail>
-    ensures fit { IfOk result (λ control. All (Fits (parts_of compiled.now.code)) control.activations) }
+fn run_beside(rt: &impl Abort, alloc: Global, compiled: &Compiled, run: &str) -> Control
+    ensures fit { All (Fits (parts_of compiled.now.code)) result.activations }
 {
-    control_beside(
-        rt,
-        alloc,
-        compiled,
-        number(run, 1).min(LONGEST),
-        u64::from(number(run, 2)).min(MOST),
-    )
+    let input_len = number(run, 1).min(LONGEST);
+    let budget = number(run, 2).min(MOST);
+    control_beside(rt, alloc, compiled, input_len, u64::from(budget))
+}
+
+/// The bodies of a run.
+fn bodies_of_run_beside(rt: &impl Abort, alloc: Global, compiled: &Compiled, run: &str) {
+    let control = run_beside(rt, alloc, compiled, run);
+    bodies_beside(rt, alloc, compiled, &control);
+}
+
+/// The runs of the rows, and the bodies of the first.
+fn rows_beside(rt: &impl Abort, alloc: Global, compiled: &Compiled, rows: &str) {
+    for row in rows.lines() {
+        if row.starts_with("run ") {
+            run_beside(rt, alloc, compiled, row);
+        }
+    }
+    bodies_of_run_beside(rt, alloc, compiled, rows);
 }
 
 /// The runs of a case, and the bodies of the first.
-fn case_beside(rt: &impl Abort, alloc: Global, case: &str) -> Result<(), Fail> {
-    let Some((text, rows)) = case.split_once("----\n") else {
-        return Err(Fail::from("a program with rows"));
-    };
-    let compiled = compile(rt, alloc, text)?;
-    for row in rows.lines() {
-        if row.starts_with("run ") {
-            run_beside(rt, alloc, &compiled, row)?;
-        }
+fn case_beside(rt: &impl Abort, alloc: Global, case: &str) {
+    let (text, rows) = case.split_once("----\n").expect(rt, "a program with rows");
+    let compiled = compile(rt, alloc, text);
+    rows_beside(rt, alloc, &compiled, rows);
+}
+
+/// The cases of a table.
+fn cases_beside(rt: &impl Abort, alloc: Global, table: &str) {
+    for case in table.split("====\n") {
+        case_beside(rt, alloc, case);
     }
-    let control = run_beside(rt, alloc, &compiled, rows)?;
-    bodies_beside(rt, alloc, &compiled, &control)
 }
 
 #[test]
-fn worked_programs_run_as_they_mean(rt: HostRuntime) -> Result<(), Fail> {
-    for table in [WORKED, FLOWS] {
-        for case in table.split("====\n") {
-            case_beside(&rt, rt.alloc(), case)?;
-        }
-    }
-    Ok(())
+fn worked_programs_run_as_they_mean(rt: HostRuntime) {
+    cases_beside(&rt, rt.alloc(), WORKED);
+    cases_beside(&rt, rt.alloc(), FLOWS);
 }
 
 /// Control programs and their bodies end as they mean, round the budgets that just suffice; a budget of 0 is among them.
 #[test]
-fn control_programs_of_each_form_run_as_they_mean(rt: HostRuntime) -> Result<(), Fail> {
+fn control_programs_of_each_form_run_as_they_mean(rt: HostRuntime) {
     for text in PROGRAMS.split("====\n") {
-        whole_beside(&rt, rt.alloc(), text, 5)?;
+        whole_beside(&rt, rt.alloc(), text, 5);
     }
-    Ok(())
 }
 
-/// A control program makes so many activations and ends so. The numbers were found by hand; `meaning_tests` holds what the
-/// program means against them too.
-fn counts_so(rt: &impl Abort, alloc: Global, case: &Counted) -> Result<(), Fail> {
+/// A control program makes so many activations and ends so, and these are what it means where the budget is 1,000,000. The numbers were
+/// found by hand; `meaning_tests` holds what the program means against them too.
+fn counts_so(rt: &impl Abort, alloc: Global, case: &Counted) {
     let (text, input_len, budget, count, end) = *case;
-    let compiled = compile(rt, alloc, text)?;
+    let compiled = compile(rt, alloc, text);
     let input_len = input_len.min(LONGEST);
-    let control = run_control(alloc, &compiled.code, input_len, budget.min(MOST))?;
-    assert!(rt; control.activations.len() == count, "{text}");
-    assert!(rt; control.end == end, "{text}");
-    Ok(())
+    let budget = budget.min(u64::from(MOST));
+    let control = run_control(alloc, &compiled.code, input_len, budget).expect(rt, "memory");
+    assert!(rt;
+        control.activations.len() == count && control.end == end,
+        "{text}"
+    );
+    if budget == 1_000_000 {
+        runs_as_it_means(rt, alloc, &compiled, input_len, budget);
+    }
 }
 
 /// Each case of a table.
-fn all_count_so(rt: &impl Abort, alloc: Global, cases: &[Counted]) -> Result<(), Fail> {
+fn all_count_so(rt: &impl Abort, alloc: Global, cases: &[Counted]) {
     for case in cases {
-        counts_so(rt, alloc, case)?;
+        counts_so(rt, alloc, case);
     }
-    Ok(())
 }
 
+/// The program that makes 65,536 activations is among them, and they are those that are meant.
 #[test]
-fn limits_come_where_they_should(rt: HostRuntime) -> Result<(), Fail> {
-    all_count_so(&rt, rt.alloc(), &COUNTED)
-}
-
-/// The programs of a table that run under a budget of 1,000,000.
-fn those_of_a_million_beside(
-    rt: &impl Abort,
-    alloc: Global,
-    cases: &[Counted],
-) -> Result<(), Fail> {
-    for (text, input_len, budget, _, _) in cases {
-        if *budget == 1_000_000 {
-            let compiled = compile(rt, alloc, *text)?;
-            let input_len = (*input_len).min(LONGEST);
-            control_beside(rt, alloc, &compiled, input_len, 1_000_000)?;
-        }
-    }
-    Ok(())
-}
-
-/// The program that makes 65,536 activations is among them.
-#[test]
-fn as_many_activations_as_may_be_are_those_that_are_meant(rt: HostRuntime) -> Result<(), Fail> {
-    those_of_a_million_beside(&rt, rt.alloc(), &COUNTED)
+fn limits_come_where_they_should(rt: HostRuntime) {
+    all_count_so(&rt, rt.alloc(), &COUNTED);
 }

@@ -1,9 +1,9 @@
 //! The deepest programs are compiled, also on the stack of a thread.
 
-use crate::compiled::compile;
+use crate::compiled::instructions_of;
+use crate::texts::push;
 use std::alloc::Global;
 use std::process::Abort;
-use std::test::Fail;
 use std::thread;
 
 /// The body of a task or a function: a head, what is repeated before a middle, the middle, what is repeated behind it,
@@ -49,34 +49,26 @@ static NESTS: [Nest; 19] = [
     (["int b = ", "(", "1", ")", ";"], 197),
 ];
 
-fn nest_text(alloc: Global, nest: &Nest) -> Result<String, Fail> {
+fn nest_text(rt: &impl Abort, alloc: Global, nest: &Nest) -> String {
     let ([head, open, middle, close, tail], count) = *nest;
-    let mut text = String::from_str(alloc, BEFORE)?;
-    text.push_str(head)?;
-    for _ in 0..count {
-        text.push_str(open)?;
-    }
-    text.push_str(middle)?;
-    for _ in 0..count {
-        text.push_str(close)?;
-    }
-    text.push_str(tail)?;
-    text.push_str(BEHIND)?;
-    Ok(text)
-}
-
-/// Whether a text is compiled.
-fn is_compiled(rt: &impl Abort, alloc: Global, text: &str) -> bool {
-    compile(rt, alloc, text).is_ok()
+    let mut text = String::new(alloc);
+    push(rt, &mut text, BEFORE, 1);
+    push(rt, &mut text, head, 1);
+    push(rt, &mut text, open, count);
+    push(rt, &mut text, middle, 1);
+    push(rt, &mut text, close, count);
+    push(rt, &mut text, tail, 1);
+    push(rt, &mut text, BEHIND, 1);
+    text
 }
 
 #[test]
-fn a_thread_compiles_a_depth_of_200(rt: HostRuntime) -> Result<(), Fail> {
+fn a_thread_compiles_a_depth_of_200(rt: HostRuntime) {
     for nest in &NESTS {
-        let text = nest_text(rt.alloc(), nest)?;
-        assert!(rt; is_compiled(&rt, rt.alloc(), text.as_str()), "{text}");
-        let compiler = thread::spawn(&rt, move || is_compiled(&rt, rt.alloc(), text.as_str()))?;
-        assert!(rt; compiler.join(&rt), "{}", nest.0[1]);
+        let text = nest_text(&rt, rt.alloc(), nest);
+        let count = instructions_of(&rt, rt.alloc(), text.as_str());
+        let compiler = thread::spawn(&rt, move || instructions_of(&rt, rt.alloc(), text.as_str()));
+        let same = compiler.expect(&rt, "a thread").join(&rt) == count;
+        assert!(rt; same, "{}", nest.0[1]);
     }
-    Ok(())
 }

@@ -8,26 +8,31 @@ use example_texts::{
 use kernels::{BROADCAST, INVERT, LIFT, PIPELINE, SMOOTH, UNLIFT};
 use std::alloc::Global;
 use std::process::Abort;
-use std::test::Fail;
 
 /// Lengths from none over blocks that aren't whole to several.
 const LENGTHS: [u32; 6] = [0, 1, 3, 6, 29, 130];
 
-/// The programs run as they mean over inputs of each length.
-fn lengths_beside(rt: &impl Abort, alloc: Global, texts: &[&str]) -> Result<(), Fail> {
-    for text in texts {
-        for input_len in LENGTHS {
-            whole_beside(rt, alloc, *text, input_len)?;
-        }
+/// The kernels, and examples of each kind.
+const TEXTS: [&str; 19] = [
+    INVERT, SMOOTH, LIFT, UNLIFT, PIPELINE, BROADCAST, FIRST, OVERLAP, DIVIDE, ADPCM, UNADPCM,
+    WAVELET, UNWAVELET, BANK, UNBANK, DELTA, UNDELTA, DCT, UNDCT,
+];
+
+/// A program runs as it means over inputs of each length.
+fn lengths_beside(rt: &impl Abort, alloc: Global, text: &str) {
+    for input_len in LENGTHS {
+        whole_beside(rt, alloc, text, input_len);
     }
-    Ok(())
+}
+
+/// Each program does so.
+fn all_beside(rt: &impl Abort, alloc: Global, texts: &[&str]) {
+    for text in texts {
+        lengths_beside(rt, alloc, *text);
+    }
 }
 
 #[test]
-fn kernels_and_examples_run_as_they_mean(rt: HostRuntime) -> Result<(), Fail> {
-    let kernels = [INVERT, SMOOTH, LIFT, UNLIFT, PIPELINE, BROADCAST];
-    lengths_beside(&rt, rt.alloc(), &kernels)?;
-    lengths_beside(&rt, rt.alloc(), &[FIRST, OVERLAP, DIVIDE, ADPCM, UNADPCM])?;
-    lengths_beside(&rt, rt.alloc(), &[WAVELET, UNWAVELET, BANK, UNBANK])?;
-    lengths_beside(&rt, rt.alloc(), &[DELTA, UNDELTA, DCT, UNDCT])
+fn kernels_and_examples_run_as_they_mean(rt: HostRuntime) {
+    all_beside(&rt, rt.alloc(), &TEXTS);
 }

@@ -31,3 +31,5 @@ mod operators;
 mod programs;
 #[cfg(test)]
 mod statements;
+#[cfg(test)]
+mod texts;
