@@ -63,7 +63,7 @@ const THREES: &str = r"int main(void) {
 }
 ";
 
-/// The first 6,000 read nothing, and of the 9,001 others each reads what the one before it wrote, so that no share can begin among these.
+/// The first 6,000 read nothing, and of the 16,001 others each reads what the one before it wrote, so that no share can begin among these.
 const CHAINED: &str = r"int main(void) {
     int s __attribute__((stream));
     int i, x, y, z;
@@ -77,7 +77,7 @@ const CHAINED: &str = r"int main(void) {
     }
     #pragma omp task output(s << y)
     y = 1;
-    for (i = 0; i < 9000; i++) {
+    for (i = 0; i < 16000; i++) {
         #pragma omp task input(s >> x) output(s << y, osout << z)
         {
             y = (x * 5 + i) & 255;
