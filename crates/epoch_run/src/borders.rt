@@ -16,7 +16,7 @@ const CREATING: u64 = 40;
 const PASSING: u64 = 32;
 
 /// What it takes to create one and to run it, besides its own steps.
-const RUNNING: u64 = 122;
+const RUNNING: u64 = 170;
 
 /// One, in the fractions by which shares are told.
 const ONE: u64 = 1_024;

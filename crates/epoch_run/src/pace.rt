@@ -13,8 +13,8 @@ const CELL_STEPS: u64 = 80;
 /// creates the activations before its own as well.
 const SHARE_STEPS: u64 = 192;
 
-/// How many steps it has to take for each element that it reads: what a share writes is put behind the others', which takes about as long again.
-const ELEMENT_STEPS: u64 = 32;
+/// How many steps it has to take for each of its cells: what a share writes is put behind what the others did, which takes about as long again.
+const SHARED_CELL_STEPS: u64 = 10;
 
 /// Bodies that take as many steps gain by several workers, whatever a table costs them.
 const LONG_STEPS: u64 = 4_096;
@@ -27,8 +27,8 @@ const THREAD_STEPS: u64 = 65_536;
 pub(crate) enum Pace {
     /// None was run by several workers yet.
     Unknown,
-    /// They take about so many steps each, and read about so many elements.
-    Steps { each: u64, elements: u64 },
+    /// They take about so many steps each, and a plan has about so many cells for each, those of the output among them.
+    Steps { each: u64, cells: u64 },
 }
 
 impl Pace {
@@ -37,33 +37,33 @@ impl Pace {
     pub(crate) fn of(plan: &Plan, steps: u64) -> Pace {
         let frames = plan.frames.len();
         let counted = steps.max((frames as u64).saturating_mul(COUNTED));
-        Pace::by(counted, frames, elements_of(plan))
+        Pace::by(counted, frames, cells_of(plan))
     }
 
     /// The pace of so many more activations like those before them, whose bodies took so many steps together.
     pub(crate) fn of_more(self, steps: u64, count: usize) -> Pace {
-        let elements = match self {
-            Pace::Steps { elements, .. } => elements,
+        let cells = match self {
+            Pace::Steps { cells, .. } => cells,
             Pace::Unknown => 0,
         };
-        Pace::by(steps, count, elements)
+        Pace::by(steps, count, cells)
     }
 
-    /// The pace of so many bodies that took so many steps together, and read so many elements each.
-    fn by(steps: u64, count: usize, elements: u64) -> Pace {
+    /// The pace of so many bodies that took so many steps together, of which each has so many cells.
+    fn by(steps: u64, count: usize, cells: u64) -> Pace {
         if count == 0 {
             return Pace::Unknown;
         }
         Pace::Steps {
             each: steps / count as u64,
-            elements,
+            cells,
         }
     }
 
     /// From how many steps on bodies gain by several workers that run a plan.
     fn worth(self) -> u64 {
         match self {
-            Pace::Steps { elements, .. } => worth_a_table(elements).min(LONG_STEPS),
+            Pace::Steps { cells, .. } => worth_a_table(cells).min(LONG_STEPS),
             Pace::Unknown => TABLE_STEPS,
         }
     }
@@ -87,10 +87,10 @@ impl Pace {
     /// Whether they are so long that so many workers gain by sharing a run out.
     pub(crate) fn is_worth_shares(self, workers: u32) -> bool {
         match self {
-            Pace::Steps { each, elements } => {
+            Pace::Steps { each, cells } => {
                 let others = workers.min(4).saturating_sub(1);
                 each.saturating_mul(u64::from(others)) >= SHARE_STEPS
-                    && each >= elements.saturating_mul(ELEMENT_STEPS)
+                    && each >= cells.saturating_mul(SHARED_CELL_STEPS)
             }
             Pace::Unknown => false,
         }
@@ -120,7 +120,7 @@ impl Pace {
         ensures few { IfSome result (λ some. some ≤ workers) }
     {
         match self {
-            Pace::Steps { each, .. } if each < worth_a_table(elements_of(plan)) => {
+            Pace::Steps { each, .. } if each < worth_a_table(cells_of(plan)) => {
                 Some(threads_for(open_at_first(plan).saturating_mul(each), workers))
             }
             _ => None,
@@ -128,15 +128,13 @@ impl Pace {
     }
 }
 
-/// From how many steps on an average body gains by a table, where it reads so many elements.
-fn worth_a_table(elements: u64) -> u64 {
-    elements
-        .saturating_mul(CELL_STEPS)
-        .saturating_add(TABLE_STEPS)
+/// From how many steps on an average body gains by a table, where it has so many cells.
+fn worth_a_table(cells: u64) -> u64 {
+    cells.saturating_mul(CELL_STEPS).saturating_add(TABLE_STEPS)
 }
 
-/// How many elements a frame of a plan reads, on the average.
-fn elements_of(plan: &Plan) -> u64 {
+/// How many cells a plan has for each frame, on the average.
+fn cells_of(plan: &Plan) -> u64 {
     let frames = plan.frames.len() as u64;
     if frames == 0 {
         return 0;
