@@ -45,7 +45,7 @@ operator_of_two _ = None
 abbrev pub unary_value : Unary → ℕ → Bool → ℤ → Answer ℤ
 unary_value op line unsigned a = at_line line (c_int.unary_value (unary_for unsigned (operator_of_one op)) a)
 
--- An operator that is none is never asked.
+-- `&&` and `||` have no operator of numbers; they are evaluated elsewhere.
 abbrev pub given_by : Option int_binary.Binary → ℕ → (left right : Bool) → ℤ → ℤ → Answer ℤ
 given_by op line left right a b = option_map_or (λ op. at_line line (c_int.binary_value (binary_for left right op) a b)) op (Ok (pos 0))
 

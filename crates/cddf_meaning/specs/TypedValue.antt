@@ -21,7 +21,7 @@ use Rattle.os_ast.specs.declared.expr.Unary.{Unary}
 abbrev pub typed_unary : Unary → ℕ → Typed → Answer Typed
 typed_unary op line a = at_line line (unary_typed (operator_of_one op) a)
 
--- An operator that is none is never asked.
+-- `&&` and `||` have no operator of numbers; they are evaluated elsewhere.
 abbrev pub typed_by : Option int_binary.Binary → ℕ → Typed → Typed → Answer Typed
 typed_by None line a b = Ok (truth_value false)
 typed_by (Some op) line a b = at_line line (binary_typed op a b)

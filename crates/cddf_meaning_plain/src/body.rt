@@ -50,7 +50,7 @@ fn run_body(
 ///
 /// The program violates no rule, and the activation fits one of its tasks: by its number, by a value for each captured scalar,
 /// and by a claim for each item. The inputs are the elements of its input items, one item after another, as many as the
-/// horizons of its read claims add up to. The budget is that of one activation, in units. `Memory` is the one error; it says
+/// horizons of its read claims add up to. The budget is that of one activation, in turns. `Memory` is the one error; it says
 /// nothing of the program. The call is slow, and for tests.
 pub fn plain_body(
     alloc: Global,

@@ -148,7 +148,7 @@ fn is_read(stream: u32, next: Move) -> bool
     }
 }
 
-/// By how much a move, which is no claim that reads it, lets a stream be skipped.
+/// How many positions of a stream a move skips, where it isn't a claim that reads the stream.
 fn skipped(stream: u32, next: Move) -> u32
     ensures { result ≡ skipped stream next }
 {

@@ -25,7 +25,7 @@ impl Stop {
         Stop::Ended(Ending::Trapped { trap, line })
     }
 
-    /// A unit was needed, and no turn was left.
+    /// A turn was needed, and none was left.
     pub fn over_budget() -> Stop
         ensures { result ≡ stops.Ended endings.OverBudget }
     {

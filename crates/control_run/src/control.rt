@@ -12,7 +12,7 @@ use std::alloc::Global;
 
 /// Runs `main` of a code to its end: the activations that it creates, in order, and how it ended.
 ///
-/// The input has so many bytes; the budget is in units, one for each turn of a loop, each call and each tick. It ends
+/// The input has so many bytes; the budget is in turns: each iteration of a loop, each call and each tick takes one. It ends
 /// within `(budget + 1) * (code length + 1)` steps. It takes memory for what the longest chain of calls needs, a number
 /// for each stream, and for each activation its captured values and its claims; where that is wanting nothing of it is
 /// left.

@@ -19,7 +19,7 @@ use std::mem;
 #[derive(Drop)]
 pub(crate) struct Spare {
     activations: List<Activation>,
-    /// Those that are made and not handed over stand from `first` on, below `made`.
+    /// Activations `first` to `made` - 1 are made and not handed over yet.
     first: usize,
     made: usize,
 }

@@ -41,8 +41,8 @@ impl<'c> ControlRun<'c> {
     ghost use Rattle.stream_match_layouts.specs.Lawful.{AreLawful};
     ghost use Rattle.control_run.specs.Stretches.{IsPartOfStretch, StepsTold, TurnsTold, advanced, end_told, given_by, not_begun, remaining, whole};
 
-    /// A run that has not begun. The input has so many bytes; the budget is in units, one for each turn of a loop, each
-    /// call and each tick. It takes memory for what the longest chain of calls needs, and a number for each stream.
+    /// A run that has not begun. The input has so many bytes; the budget is in turns: each iteration of a loop, each call
+    /// and each tick takes one. It takes memory for what the longest chain of calls needs, and a number for each stream.
     pub fn new(
         alloc: Global,
         code: &'c Code,

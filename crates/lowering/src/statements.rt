@@ -144,7 +144,7 @@ fn emit_task(
     emit_next(draft, next)
 }
 
-/// Behind nothing the code goes on at a label by a jump.
+/// Where the code is to go on at a label, it jumps there; else it goes on at the next place.
 fn emit_next(draft: &mut Draft, next: Option<Label>) -> Result<(), Memory>
     ensures { OnOk result (draft.new ≡ jump_on next draft.old) }
 {

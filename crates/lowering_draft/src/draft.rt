@@ -46,7 +46,7 @@ impl Draft {
     pub fn spawn(&mut self) -> Result<(), Memory>
         ensures { OnOk result (self.new ≡ with_spawn self.old) }
     {
-        // So many tasks leave no memory for another one.
+        // 2^32 tasks wouldn't fit into memory.
         let next = self.spawned.checked_add(1).ok_or(Memory)?;
         self.instrs.push(Instr::Spawn(self.spawned))?;
         self.spawned = next;
@@ -57,7 +57,7 @@ impl Draft {
     pub fn label(&mut self) -> Result<Label, Memory>
         ensures { IfOk result (λ label. (label ≡ next_label self.old) × (self.new ≡ with_label self.old)) }
     {
-        // So many labels leave no memory for another one.
+        // 2^32 labels wouldn't fit into memory.
         let number = u32::try_from(self.places.len()).map_err(|_| Memory)?;
         self.places.push(None)?;
         Ok(Label { number })

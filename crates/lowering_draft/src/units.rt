@@ -33,7 +33,7 @@ impl Units {
     pub fn add(&mut self, start: usize, args: u32, slots: u32) -> Result<(), Memory>
         ensures { OnOk result (self.new ≡ unit_from start args slots self.old) }
     {
-        // So many instructions leave no memory for another one.
+        // 2^32 instructions wouldn't fit into memory.
         let stack = u32::try_from(self.draft.instrs.len().saturating_sub(start)).map_err(
             |_| Memory,
         )?;

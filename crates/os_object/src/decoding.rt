@@ -21,8 +21,8 @@ pub fn decode(alloc: Global, bytes: &[u8]) -> Result<Code, ObjectError>
     ensures spelled { IfOk result (λ code. Spells bytes.now (parts_of code)) }
     // The code is valid.
     ensures valid { IfOk result (λ code. IsValid (parts_of code)) }
-    // An object is read as the code that it is of. It is refused as `Invalid` only where the parts aren't valid, and as
-    // `Format` never.
+    // Bytes that spell parts are read as these parts. They are refused as `Invalid` only where the parts aren't valid, and
+    // never as `Format`.
     ensures exact { (parts : CodeParts) → Spells bytes.now parts → IsReadAs parts result }
     // What isn't an object is refused as nothing else.
     ensures invalid { result ≡ Err ObjectError.Invalid → (parts : CodeParts) × Spells bytes.now parts × (IsValid parts → ⊥) }

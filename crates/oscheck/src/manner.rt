@@ -17,7 +17,7 @@ impl Extent {
         }
     }
 
-    /// Of so many, how many more there are than are told, where that is told.
+    /// How many of `count` errors or warnings are not told; 0 for `First`, where this isn't said.
     pub(crate) fn more(self, count: usize) -> usize {
         match self {
             Extent::First => 0,

@@ -17,7 +17,7 @@ use Rattle.os_code.specs.declared.instr.Instr.TheVariants.{Drop, Jump, Turn}
 abbrev pub in_loop : Exits → (broke continued : Label) → Exits
 in_loop x broke continued = record x { broke = broke; continued = continued }
 
--- Behind nothing the code goes on at a label by a jump.
+-- Where the code is to go on at a label, it jumps there; else it goes on at the next place.
 abbrev pub jump_on : Option Label → Emission
 jump_on None draft = draft
 jump_on (Some next) draft = with_instr draft (Jump next.number)
