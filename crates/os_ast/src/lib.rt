@@ -26,7 +26,9 @@ mod ty;
 mod violation;
 
 pub use expr::{Binary, Call, Expr, Index, Level, Link, Mark, Name, Target, Unary};
-pub use limits::{ARRAYS_LIMIT, ELEMENTS_LIMIT, SIZE_LIMIT, STREAMS_LIMIT};
+pub use limits::{
+    ARRAYS_LIMIT, CAPTURED_LIMIT, ELEMENTS_LIMIT, ITEMS_LIMIT, SIZE_LIMIT, STREAMS_LIMIT,
+};
 pub use names::{Direction, Entity, Entry, Form, Owner, Resolved, Role, Shape, Use, What};
 pub use nesting::depth;
 pub use pragma::{Clause, ClauseItem, ClauseKind, Join, TaskSite, TickSite};

@@ -8,3 +8,7 @@ pub const ELEMENTS_LIMIT: u32 = 65_536;
 pub const ARRAYS_LIMIT: u32 = 1_048_576;
 /// The most streams that a program declares.
 pub const STREAMS_LIMIT: u32 = 65_536;
+/// The most items of a task.
+pub const ITEMS_LIMIT: usize = 8;
+/// The most scalars that a task captures.
+pub const CAPTURED_LIMIT: usize = 64;

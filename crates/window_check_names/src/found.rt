@@ -9,14 +9,9 @@ ghost use Rattle.os_ast.specs.declared.rule.Rule.TheVariants.{TaskLimit};
 
 use crate::broken_rules::{BrokenRules, when};
 use crate::captures::Captured;
-use os_ast::{Mark, Owner, Resolved, Rule, Violation, What};
+use os_ast::{CAPTURED_LIMIT, ITEMS_LIMIT, Mark, Owner, Resolved, Rule, Violation, What};
 use os_io::{List, Memory};
 use std::alloc::Global;
-
-/// The most items of a task.
-const ITEMS_LIMIT: usize = 8;
-/// The most scalars that a task captures.
-const CAPTURED_LIMIT: usize = 64;
 
 /// What a walk over a part of a program finds.
 #[derive(Drop)]
