@@ -71,7 +71,7 @@ impl Captured {
         ensures few { IfOk result (λ ordered. length ordered ≤ 2 ^ 32) }
     {
         let slots = self.collected(alloc)?;
-        listed(alloc, slots.as_slice())
+        List::from_slice(alloc, slots.as_slice())
     }
 
     fn collected(&self, alloc: Global) -> Result<Vec<u32>, Memory>
@@ -81,16 +81,6 @@ impl Captured {
     {
         Ok(self.slots.iter().copied().collect(alloc)?)
     }
-}
-
-fn listed(alloc: Global, slots: &[u32]) -> Result<List<u32>, Memory>
-    ensures { IfOk result (λ all. all ≡ slots.now) }
-{
-    let mut all = List::new(alloc);
-    for slot in slots {
-        all.push(*slot)?;
-    }
-    Ok(all)
 }
 
 /// The slots of a task's captured scalars, ascending.
