@@ -1,4 +1,3 @@
-pub mod Constants
 pub mod Horizons
 pub mod Moving
 pub mod Outputs

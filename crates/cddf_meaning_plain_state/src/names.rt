@@ -6,14 +6,13 @@ ghost use Rattle.cddf_meaning.specs.Functions.{file_of, item_id, item_unsigned, 
 ghost use Rattle.cddf_meaning.specs.BodyState as states;
 ghost use Rattle.cddf_meaning.specs.Value.{scalar_value};
 ghost use Rattle.cddf_meaning.specs.Variables.{find, flag_or};
-ghost use Rattle.os_ast.specs.Names.{constant_value};
 ghost use Rattle.os_ast.specs.Views.{item_tree};
 ghost use Rattle.cddf_meaning_plain_state.specs.Seen.{seen};
 ghost use Rattle.cddf_meaning_plain_state.specs.Stops.{Comes};
 
 use crate::body_state::BodyState;
 use crate::stop::Stop;
-use os_ast::{Constant, Item};
+use os_ast::Item;
 
 /// What a name stands for where it is evaluated.
 #[derive(Clone, Copy, Debug, PartialEq, Eq)]
@@ -33,19 +32,6 @@ pub fn int(number: u32) -> Result<i32, Stop>
     match i32::try_from(number) {
         Ok(number) => Ok(number),
         Err(_) => Err(Stop::Memory),
-    }
-}
-
-/// The 32 bits of a constant, as an `int`.
-#[tactic(auto, using(crate::proofs::Constants::constant_bits))]
-fn constant_value(constant: &Constant) -> i32
-    ensures { result ≡ constant_value constant.now }
-{
-    let size = constant.size.cast_signed();
-    if constant.minus {
-        size.wrapping_neg()
-    } else {
-        size
     }
 }
 
@@ -74,7 +60,7 @@ fn seen_item(place: usize, item: &Item) -> Result<Seen, Stop>
     ensures { (s : states.BodyState) → Comes result (Ok (seen s (Some (item_variable place (item_tree item.now))))) }
 {
     match item {
-        Item::Constant(constant) => Ok(Seen::Number(constant_value(constant))),
+        Item::Constant(constant) => Ok(Seen::Number(constant.value())),
         Item::Function(_) => Ok(Seen::Function(place)),
     }
 }

@@ -1,5 +1,6 @@
 pub mod Begins
 pub mod Chains
+pub mod Constants
 pub mod Drops
 pub mod Fits
 pub mod Kept

@@ -1,3 +1,6 @@
+ghost use Rattle.std.specs.Prelude.{◌≡◌};
+ghost use Rattle.os_ast.specs.Names.{constant_value};
+
 use crate::expr::Name;
 use crate::stmt::Stmt;
 use crate::ty::Ty;
@@ -24,6 +27,21 @@ pub struct Constant {
     pub size: u32,
     /// Whether the size is a number of the type `unsigned`.
     pub wide: bool,
+}
+
+impl Constant {
+    /// Its 32 bits as an `int`.
+    #[tactic(auto, using(crate::proofs::Constants::constant_bits))]
+    pub fn value(&self) -> i32
+        ensures { result ≡ constant_value self.now }
+    {
+        let size = self.size.cast_signed();
+        if self.minus {
+            size.wrapping_neg()
+        } else {
+            size
+        }
+    }
 }
 
 #[derive(Clone, Copy, Debug, PartialEq, Eq)]

@@ -2,7 +2,7 @@
 
 ghost use Rattle.std.specs.Prelude.{◌≡◌, ◌≤◌, ◌<◌, ◌+◌, ◌^◌, OnOk, IfOk, length, map};
 ghost use Rattle.os_ast.specs.Leveled.{IsItem, AreAll};
-ghost use Rattle.os_ast.specs.Names.{constant_value, is_declared};
+ghost use Rattle.os_ast.specs.Names.{is_declared};
 ghost use Rattle.os_ast.specs.Rules.{when};
 ghost use Rattle.window_check_names.specs.BrokenRules.{least_rule};
 ghost use Rattle.os_ast.specs.declared.rule.Rule.TheVariants.{DeclaredTwice};
@@ -34,19 +34,6 @@ fn owner_of(id: u32) -> Owner
         Owner::OfMain
     } else {
         Owner::OfFunction
-    }
-}
-
-/// The 32 bits of a constant, as an `int`.
-#[tactic(auto, using(crate::proofs::Constants::constant_bits))]
-fn constant_value(constant: &Constant) -> i32
-    ensures { result ≡ constant_value constant.now }
-{
-    let size = constant.size.cast_signed();
-    if constant.minus {
-        size.wrapping_neg()
-    } else {
-        size
     }
 }
 
@@ -108,7 +95,7 @@ fn constant(scopes: &mut Scopes, found: &mut Found, constant: &Constant) -> Resu
     let name = constant.name;
     found.add_violation(name.mark, twice(scopes, name))?;
     scopes.set_unsigned(constant.ty.is_unsigned());
-    scopes.declare(name.id, Entity::Constant(constant_value(constant)))
+    scopes.declare(name.id, Entity::Constant(constant.value()))
 }
 
 /// The scopes of a function begin: the one round the body of `main`, and that of the parameters and the body.
