@@ -33,7 +33,7 @@ pub(crate) fn call_function(
     }
 }
 
-/// Takes the unit of a call, and runs the body of a function that stands behind these items of the file.
+/// Takes the turn of a call, and runs the body of a function that stands behind these items of the file.
 #[cycle(meaning)]
 fn entered(
     alloc: Global,

@@ -100,7 +100,7 @@ fn add_task(
 ) -> Result<(), Memory>
     ensures { OnOk result (made.new ≡ with_task (told_at told.now.names.now) captured.now (task_tree site.now) made.old) }
 {
-    // So many units leave no memory for another one.
+    // 2^32 units wouldn't fit into memory.
     let unit = u32::try_from(made.units.len()).map_err(|_| Memory)?;
     let captured = listed(alloc, captured_at(captured, made.sites.len()))?;
     let items = site_items(alloc, told, &site.clauses)?;
@@ -120,7 +120,7 @@ fn add_unit(made: &mut Units, told: &Told<'_>, captured: usize, body: &Stmt) -> 
 {
     let start = made.draft.instrs.len();
     emit_task_body(&mut made.draft, told, body)?;
-    // So many captured scalars leave no memory for another one.
+    // 2^32 captured scalars wouldn't fit into memory.
     let args = u32::try_from(captured).map_err(|_| Memory)?;
     let slots = args.saturating_add(stmt_slots(told, Owner::OfTask, body));
     made.add(start, args, slots)

@@ -68,7 +68,7 @@ fn add_function(made: &mut Units, told: &Told<'_>, function: &Function) -> Resul
 {
     let start = made.draft.instrs.len();
     emit_function(&mut made.draft, told, &function.body)?;
-    // So many parameters leave no memory for another one.
+    // 2^32 parameters wouldn't fit into memory.
     let args = u32::try_from(param_list(&function.params).len()).map_err(|_| Memory)?;
     let slots = args.saturating_add(stmts_slots(told, Owner::OfFunction, &function.body));
     made.add(start, args, slots)
@@ -79,7 +79,7 @@ fn add_main(made: &mut Units, told: &Told<'_>, function: &Function) -> Result<()
     ensures { OnOk result (made.new ≡ with_main (told_at told.now.names.now) (function_tree function.now) made.old) }
 {
     let start = made.draft.instrs.len();
-    // So many units leave no memory for another one.
+    // 2^32 units wouldn't fit into memory.
     let number = u32::try_from(made.units.len()).map_err(|_| Memory)?;
     emit_main(&mut made.draft, told, &function.body)?;
     let slots = stmts_slots(told, Owner::OfMain, &function.body).saturating_add(1);
