@@ -14,7 +14,7 @@
 //!
 //! There are the types that activations, plans and ends are made of, the trait by which a runtime asks
 //! for the bodies of frames, and `laws`: what holds of every meaning, for the proofs of whatever runs one.
-//! Nothing runs here but what looks up a frame, its number and the root of an end.
+//! Nothing runs here but what looks up a frame, its number, the end of an activation and the root of an end.
 #![tactic(auto)]
 
 mod activation;
