@@ -1,4 +1,4 @@
-ghost use Rattle.std.specs.Prelude.{◌≡◌};
+ghost use Rattle.std.specs.Prelude.{◌≡◌, IfSome, Some};
 ghost use Rattle.c_int.specs.ControlLimits.{limit_code};
 
 /// A limit that ends the control program where a further activation would pass it.
@@ -18,6 +18,18 @@ impl ControlLimit {
         match self {
             ControlLimit::Activations => 1,
             ControlLimit::Elements => 2,
+        }
+    }
+
+    /// The limit with a code; none where no limit has it.
+    pub fn of_code(code: u8) -> Option<ControlLimit>
+        ensures has_it { IfSome result (λ limit. limit_code limit ≡ code) }
+        ensures finds_it { (limit : ControlLimit) → limit_code limit ≡ code → result ≡ Some limit }
+    {
+        match code {
+            1 => Some(ControlLimit::Activations),
+            2 => Some(ControlLimit::Elements),
+            _ => None,
         }
     }
 }

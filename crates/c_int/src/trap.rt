@@ -1,4 +1,4 @@
-ghost use Rattle.std.specs.Prelude.{◌≡◌};
+ghost use Rattle.std.specs.Prelude.{◌≡◌, IfSome, Some};
 ghost use Rattle.c_int.specs.Traps.{trap_code};
 
 /// Why an operator has no result.
@@ -43,6 +43,24 @@ impl Trap {
             Trap::WindowSize => 6,
             Trap::Move => 7,
             Trap::OutputBurst => 8,
+        }
+    }
+
+    /// The trap with a code; none where no trap has it.
+    pub fn of_code(code: u8) -> Option<Trap>
+        ensures has_it { IfSome result (λ trap. trap_code trap ≡ code) }
+        ensures finds_it { (trap : Trap) → trap_code trap ≡ code → result ≡ Some trap }
+    {
+        match code {
+            1 => Some(Trap::Operator(OperatorTrap::Overflow)),
+            2 => Some(Trap::Operator(OperatorTrap::DivisorZero)),
+            3 => Some(Trap::Operator(OperatorTrap::Shift)),
+            4 => Some(Trap::Index),
+            5 => Some(Trap::NoByte),
+            6 => Some(Trap::WindowSize),
+            7 => Some(Trap::Move),
+            8 => Some(Trap::OutputBurst),
+            _ => None,
         }
     }
 }

@@ -1,4 +1,4 @@
-ghost use Rattle.std.specs.Prelude.{◌≡◌, ◌<◌, ◌≤◌, ◌-◌, None, false, All, IfSome, List, find, length, slice_get, slice_index_or};
+ghost use Rattle.std.specs.Prelude.{◌≡◌, ◌<◌, ◌≤◌, ◌-◌, false, All, IfSome, List, find, length};
 ghost use Rattle.std.specs.List.{flat_map, range_with_len};
 ghost use Rattle.std.specs.Option.{option_map};
 ghost use Rattle.flow_core_laws.specs.declared.activation.Activation.{Activation};
@@ -9,7 +9,7 @@ ghost use Rattle.stream_match_layouts.specs.Spans.{frame_count};
 ghost use Rattle.collector.specs.Missing.{missing};
 ghost use Rattle.collector.specs.Walking.{IsSpanIn, Reaches, is_gap, is_missing, first_gap, place_of, read_places};
 
-use flow_core_laws::{Ends, TaskEnd};
+use flow_core_laws::Ends;
 use stream_match_layouts::{Layout, Span};
 
 /// An element that isn't there, which a starved activation waits for.
@@ -136,29 +136,12 @@ fn producer(layout: &Layout, stream: u32, position: u64) -> Option<Span>
         → result ≡ option_map span_of (producer activations stream position) }
 {
     let number = layout.producer(stream, position)?;
-    span(layout, number)
-}
-
-/// A span by its number.
-fn span(layout: &Layout, number: u32) -> Option<Span>
-    ensures { result ≡ slice_get layout.now.spans number }
-{
-    layout.spans.as_slice().get(number as usize).copied()
+    layout.get_span(number)
 }
 
 /// Whether an activation has an end.
 fn has_end(ends: &Ends, frame: u16) -> bool
     ensures { result ≡ has_end_at ends.now.ends frame }
 {
-    end_of(ends, u32::from(frame)).is_some()
-}
-
-/// The end of an activation, if it has one.
-pub(crate) fn end_of(ends: &Ends, frame: u32) -> Option<TaskEnd>
-    ensures { result ≡ slice_index_or ends.now.ends frame None }
-{
-    match ends.ends.as_slice().get(frame as usize) {
-        Some(end) => *end,
-        None => None,
-    }
+    ends.end_of(u32::from(frame)).is_some()
 }

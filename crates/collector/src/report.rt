@@ -10,7 +10,7 @@ ghost use Rattle.collector.specs.Report.{activation_line, activation_lines, repo
 ghost use Rattle.collector.specs.Written.{written};
 
 use crate::line_buffer::LineBuffer;
-use crate::missing::{end_of, first_missing};
+use crate::missing::first_missing;
 use flow_core_laws::{ControlEnd, Elem, Ends};
 use os_io::{Sink, WriteError};
 use stream_match_layouts::Layout;
@@ -81,7 +81,7 @@ fn activation_line<S: Sink>(
     ensures { (activations : List Activation) → IsLayoutOf layout.now activations
         → GoesOn S.Sink sink.old sink.new buffer.old buffer.new (activation_line activations layout.now.input_len ends.now.ends frame) result }
 {
-    if let Some(end) = end_of(ends, frame) {
+    if let Some(end) = ends.end_of(frame) {
         return buffer.ended(sink, frame, end);
     }
     match first_missing(layout, ends, frame) {

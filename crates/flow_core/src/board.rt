@@ -44,7 +44,7 @@ impl Board {
     }
 
     /// What the run came to: the ends, and the sink cells.
-    pub(crate) fn close(&self, alloc: Global, plan: &Plan) -> Result<Ends, Memory>
+    pub fn close(&self, alloc: Global, plan: &Plan) -> Result<Ends, Memory>
         requires { plan.now.sink.cell + plan.now.sink.inputs ≤ length self.now.cells.items }
         ensures ends { IfOk result (λ e. e.ends ≡ self.now.ends.items) }
         ensures output { IfOk result (λ e. e.output

@@ -1,5 +1,4 @@
-ghost use Rattle.std.specs.Prelude.{◌≡◌, ◌+◌, ◌<◌, ◌≤◌, ℕ, List, Option, Some, None, IsSome, IfOk, OnOk, length, min, true};
-ghost use Rattle.std.specs.Option.{option_map_or};
+ghost use Rattle.std.specs.Prelude.{◌≡◌, ◌+◌, ◌<◌, ◌≤◌, ℕ, List, Option, Some, None, IsSome, IfOk, OnOk, length, true};
 ghost use Rattle.flow_core_laws.specs.Round.{gathered};
 ghost use Rattle.flow_core_laws.specs.declared.elem.Elem.{Elem};
 ghost use Rattle.flow_core_laws.specs.Element.{output_element};
@@ -8,7 +7,7 @@ ghost use Rattle.flow_core_laws.specs.Poisoning.{values_of, least_root};
 ghost use Rattle.flow_core.specs.Counted.{HasOutputs};
 ghost use Rattle.flow_core.specs.Gathered.{AreGathered};
 
-use flow_core_laws::{Elem, Piece};
+use flow_core_laws::{Elem, Piece, lesser};
 use os_io::Memory;
 
 /// The output element at a place: poison with a root, where there is one; else the value that was written.
@@ -37,16 +36,6 @@ pub(crate) fn fill(cells: &mut Vec<Option<Elem>>, piece: Piece, root: Option<u32
     let at = piece.at as usize;
     for k in 0..piece.count as usize {
         cells[at + k] = Some(output(root, outputs, first + k));
-    }
-}
-
-/// The lesser of a root and those before it, of which there may be none.
-fn lesser(least: Option<u32>, root: u32) -> u32
-    ensures { result ≡ option_map_or (λ before. min before root) least root }
-{
-    match least {
-        Some(least) => least.min(root),
-        None => root,
     }
 }
 

@@ -1,6 +1,6 @@
 -- Steps that would break a state. Each is made at a state that steps reach from opening, and leaves one
 -- that isn't good.
-use Rattle.std.specs.Prelude.{ℕ, ℤ, pos, ◌+◌, ◌==◌, ◌&&◌, true, if◌then◌else◌, List, [], ◌∷◌, Some, None, map, length, count_by, slice_set}
+use Rattle.std.specs.Prelude.{◌≡◌, ℕ, ℤ, pos, ◌+◌, ◌==◌, ◌&&◌, true, if◌then◌else◌, List, [], ◌∷◌, Some, None, map, length, count_by, slice_set}
 use Rattle.std.specs.List.{range_with_len, list_any}
 use Rattle.flow_core_laws.specs.declared.plan.Piece.{Piece}
 use Rattle.flow_core_concurrent.specs.declared.view.FrameRun.{FrameRun}
@@ -12,8 +12,9 @@ use Rattle.flow_core_concurrent.specs.declared.known.Known.{Known}
 use Rattle.flow_core_concurrent.specs.declared.view.View.{View}
 use Rattle.flow_core_concurrent.specs.declared.word.Word.{Word}
 use Rattle.flow_core_concurrent.specs.declared.word.Word.TheVariants.{Wait, Open, Taken}
+use Rattle.flow_core_concurrent.specs.Words.{word_at}
 use Rattle.flow_core_concurrent.specs.States.{CoreState, opening}
-use Rattle.flow_core_concurrent.specs.Steps.{with_view, with_claim, with_sub, after_sub, after_finish}
+use Rattle.flow_core_concurrent.specs.Steps.{Step, with_view, with_claim, with_sub, after_claim, after_sub, after_finish}
 use Rattle.flow_core_concurrent.specs.IsGood.{IsGood}
 use Rattle.flow_core_concurrent.specs.Laws.{IsFit}
 use Rattle.flow_core_concurrent.specs.Ways.{Way}
@@ -57,8 +58,23 @@ one_producer_runs =
     state (Taken ∷ Open ∷ Wait 2 ∷ Wait 1 ∷ []) (None ∷ None ∷ None ∷ [])
     (seat two.known (at 0 0 0) [] (0 ∷ []) [] [] [] 0 1 ∷ seat two.known None [] [] [] [] [] 0 1 ∷ [])
 
+abbrev pub idle_view : View
+idle_view = seat two.known None [] [] [] [] [] 0 1
+
 abbrev pub ClaimsWithoutLooking : Type 0
-ClaimsWithoutLooking = Breaks two.known one_producer_runs (λ s. blind_claim two.known s 1 (seat two.known None [] [] [] [] [] 0 1) 0)
+ClaimsWithoutLooking = Breaks two.known one_producer_runs (λ s. blind_claim two.known s 1 idle_view 0)
+
+abbrev pub none_runs : CoreState
+none_runs = state (Open ∷ Open ∷ Wait 2 ∷ Wait 1 ∷ []) (None ∷ None ∷ None ∷ []) (idle_view ∷ idle_view ∷ [])
+
+-- A claim by a load and a later store. The second seat loads the word of frame 0, which is Open: stored at once it would be a claim. But
+-- the first seat claims the frame between the two, and the store comes all the same.
+pub record ClaimsByALoadAndAStore : Type 0 where
+  pub loads_at : Way two.known none_runs
+  pub loads_open : word_at none_runs.words 0 ≡ Open
+  pub is_a_claim_at_once : blind_claim two.known none_runs 1 idle_view 0 ≡ after_claim two.known none_runs 1 idle_view 0
+  pub another_claims_between : Step two.known none_runs one_producer_runs
+  pub breaks : ClaimsWithoutLooking
 
 -- A frame that gives two elements to another one, by a piece each.
 abbrev pub pairs : Known

@@ -5,7 +5,7 @@ ghost use Rattle.flow_core_concurrent.specs.Laws.{IsMeant};
 ghost use Rattle.flow_core_concurrent.specs.WrongSteps.{
   SubsBeforeItStores,
   FinishesBeforeItGives,
-  ClaimsWithoutLooking,
+  ClaimsByALoadAndAStore,
   CountsProducers,
   OpensAtTheFirstPiece,
   StoresOfTrapped,
@@ -27,9 +27,9 @@ pub fn finish_before_sub()
     ensures { FinishesBeforeItGives }
 {}
 
-/// A claim that loads the word and then stores it: two seats run one frame.
+/// A claim that loads the word and then stores it, where another seat claims the frame between the two: two seats run one frame.
 pub fn claim_in_two_steps()
-    ensures { ClaimsWithoutLooking }
+    ensures { ClaimsByALoadAndAStore }
 {}
 
 /// A counter of producers, and a frame that opens at the first piece of each: the word isn't the number

@@ -1,3 +1,5 @@
+ghost use Rattle.std.specs.Prelude.{◌≡◌, None, slice_index_or};
+
 use crate::elem::Elem;
 use crate::task_end::TaskEnd;
 use os_io::List;
@@ -9,4 +11,16 @@ pub struct Ends {
     pub ends: List<Option<TaskEnd>>,
     /// The element of each sink cell, a value or poison; none where it isn't there.
     pub output: List<Option<Elem>>,
+}
+
+impl Ends {
+    /// The end of an activation, if it has one.
+    pub fn end_of(&self, activation: u32) -> Option<TaskEnd>
+        ensures { result ≡ slice_index_or self.now.ends activation None }
+    {
+        match self.ends.as_slice().get(activation as usize) {
+            Some(end) => *end,
+            None => None,
+        }
+    }
 }

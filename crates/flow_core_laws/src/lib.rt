@@ -14,7 +14,7 @@
 //!
 //! There are the types that activations, plans and ends are made of, the trait by which a runtime asks
 //! for the bodies of frames, and `laws`: what holds of every meaning, for the proofs of whatever runs one.
-//! Nothing runs here but what looks up a frame, its number and the root of an end.
+//! Nothing runs here but what looks up a frame, its number, the end of an activation and the root of an end, and the lesser of two roots.
 #![tactic(auto)]
 
 mod activation;
@@ -24,6 +24,7 @@ mod control;
 mod elem;
 mod ends;
 pub mod laws;
+mod least_root;
 mod limits;
 mod outcome;
 mod plan;
@@ -35,6 +36,7 @@ pub use claim::Claim;
 pub use control::{Control, ControlEnd};
 pub use elem::Elem;
 pub use ends::Ends;
+pub use least_root::lesser;
 pub use limits::{ACTIVATIONS_LIMIT, HORIZON_LIMIT, MOVE_LIMIT, POSITIONS_LIMIT};
 pub use outcome::Outcome;
 pub use plan::{FramePlan, Piece, Plan};

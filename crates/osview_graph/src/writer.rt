@@ -1,17 +1,10 @@
-ghost use Rattle.std.specs.Prelude.{◌≡◌, ◌<◌, ◌+◌, IfSome, List, length, slice_get};
+ghost use Rattle.std.specs.Prelude.{◌≡◌, ◌<◌, ◌+◌, IfSome, List, length};
 ghost use Rattle.std.specs.Option.{option_map};
 ghost use Rattle.flow_core_laws.specs.declared.activation.Activation.{Activation};
 ghost use Rattle.flow_core_laws.specs.Window.{producer};
 ghost use Rattle.stream_match_layouts.specs.Layout.{IsLayout, IsLayoutOf, span_of};
 
 use stream_match_layouts::{Layout, Span};
-
-/// A span by its number.
-fn span(layout: &Layout, number: u32) -> Option<Span>
-    ensures { result ≡ slice_get layout.now.spans number }
-{
-    layout.spans.as_slice().get(number as usize).copied()
-}
 
 /// The write span that covers a position of a stream.
 pub(crate) fn writer_at(layout: &Layout, stream: u32, position: u64) -> Option<Span>
@@ -22,5 +15,5 @@ pub(crate) fn writer_at(layout: &Layout, stream: u32, position: u64) -> Option<S
         → result ≡ option_map span_of (producer activations stream position) }
 {
     let number = layout.producer(stream, position)?;
-    span(layout, number)
+    layout.get_span(number)
 }

@@ -1,5 +1,6 @@
 pub mod Alike
 pub mod Also
+pub mod Codes
 pub mod Counted
 pub mod Joined
 pub mod LeftOver

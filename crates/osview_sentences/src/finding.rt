@@ -1,4 +1,4 @@
-ghost use Rattle.std.specs.Prelude.{◌≡◌, ◌<◌, ◌++◌, List, None, IfOk, OnOk, length, slice_index_or};
+ghost use Rattle.std.specs.Prelude.{◌≡◌, ◌<◌, ◌++◌, List, IfOk, OnOk, length, slice_index_or};
 ghost use Rattle.flow_core_laws.specs.declared.activation.Activation.{Activation};
 ghost use Rattle.osview_sentences.specs.Facts.{ended_by, fact_of, given_by_none, sentence_at, sentence_of, sentences, supply_of, waiting_for};
 ghost use Rattle.stream_match_layouts.specs.Layout.{IsLayout, IsLayoutOf};
@@ -10,16 +10,6 @@ use flow_core_laws::{Ends, TaskEnd};
 use os_io::Memory;
 use std::alloc::Global;
 use stream_match_layouts::Layout;
-
-/// The end of an activation, if it has one.
-fn end_of(ends: &Ends, frame: u32) -> Option<TaskEnd>
-    ensures { result ≡ slice_index_or ends.now.ends frame None }
-{
-    match ends.ends.as_slice().get(frame as usize) {
-        Some(end) => *end,
-        None => None,
-    }
-}
 
 /// An element that no activation writes.
 fn given_by_none(stream: u32) -> Supply
@@ -77,7 +67,7 @@ fn fact_of(layout: &Layout, ends: &Ends, frame: u32) -> Option<Fact>
     ensures { (activations : List Activation) → IsLayoutOf layout.now activations
         → result ≡ fact_of activations layout.now.input_len ends.now.ends frame }
 {
-    if let Some(end) = end_of(ends, frame) {
+    if let Some(end) = ends.end_of(frame) {
         return ended_by(end);
     }
     match first_missing(layout, ends, frame) {

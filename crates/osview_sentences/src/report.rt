@@ -1,4 +1,5 @@
 ghost use Rattle.std.specs.Prelude.{◌≡◌, ◌++◌, List, IfOk, OnOk, count_by, length};
+ghost use Rattle.c_int.specs.ControlLimits.{limit_code};
 ghost use Rattle.collector.specs.Status.{has_done};
 ghost use Rattle.collector.specs.Written.{written};
 ghost use Rattle.collector.specs.Line.{line};
@@ -19,6 +20,7 @@ use crate::stream_name::StreamName;
 use crate::tally::Tally;
 use crate::text::Text;
 use crate::wording::trap_text;
+use c_int::ControlLimit;
 use flow_core_laws::{ControlEnd, Elem, Ends, TaskEnd};
 use os_io::Memory;
 use std::alloc::Global;
@@ -245,14 +247,21 @@ fn activation_word(count: u64) -> &'static [u8]
 }
 
 /// What stopped `main` at a limit.
+fn limit_words(limit: ControlLimit) -> &'static [u8]
+    ensures { result.now ≡ limit_text (limit_code limit) }
+{
+    match limit {
+        ControlLimit::Activations => b", as many as there may be: larger blocks need fewer",
+        ControlLimit::Elements =>
+            b": the windows of one more would cover more than 4194304 elements in all",
+    }
+}
+
+/// What stopped `main`, by the code of the limit.
 fn limit_text(limit: u8) -> &'static [u8]
     ensures { result.now ≡ limit_text limit }
 {
-    if limit == 1 {
-        b", as many as there may be: larger blocks need fewer"
-    } else {
-        b": the windows of one more would cover more than 4194304 elements in all"
-    }
+    limit_words(ControlLimit::of_code(limit).unwrap_or(ControlLimit::Elements))
 }
 
 /// What is counted in a run.

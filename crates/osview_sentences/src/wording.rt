@@ -2,7 +2,7 @@ ghost use Rattle.std.specs.Prelude.{◌≡◌, ◌++◌, [], OnOk, codes};
 ghost use Rattle.std.specs.Fmt.{decimal};
 ghost use Rattle.osview_sentences.specs.Names.{called, stream_text};
 ghost use Rattle.osview_sentences.specs.Sentences.{element_text, fact_text, from_text, given_text, sentence_text, supply_text};
-ghost use Rattle.osview_sentences.specs.Sentences.{trap_of, trap_text, trap_words, waits_text};
+ghost use Rattle.osview_sentences.specs.Sentences.{trap_text, trap_words, waits_text};
 
 use crate::fact::{Fact, Sentence, Supply};
 use crate::stream_name::{StreamName, name_of};
@@ -27,28 +27,11 @@ fn trap_words(trap: Trap) -> &'static [u8]
     }
 }
 
-/// The trap with a code; none where the code isn't one from 1 to 8.
-fn of_code(code: u8) -> Option<Trap>
-    ensures { result ≡ trap_of code }
-{
-    match code {
-        1 => Some(Trap::Operator(OperatorTrap::Overflow)),
-        2 => Some(Trap::Operator(OperatorTrap::DivisorZero)),
-        3 => Some(Trap::Operator(OperatorTrap::Shift)),
-        4 => Some(Trap::Index),
-        5 => Some(Trap::NoByte),
-        6 => Some(Trap::WindowSize),
-        7 => Some(Trap::Move),
-        8 => Some(Trap::OutputBurst),
-        _ => None,
-    }
-}
-
 /// A trap in words, by its code.
 pub(crate) fn trap_text(code: u8) -> &'static [u8]
     ensures { result.now ≡ trap_text code }
 {
-    match of_code(code) {
+    match Trap::of_code(code) {
         Some(trap) => trap_words(trap),
         None => b"a code that no trap has",
     }

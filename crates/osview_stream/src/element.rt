@@ -13,13 +13,6 @@ use flow_core::{Elem, TaskEnd};
 use osview_outcomes::Outcomes;
 use stream_match_layouts::{Layout, Span};
 
-/// A span by its number.
-fn span(layout: &Layout, number: u32) -> Option<Span>
-    ensures { result ≡ slice_get layout.now.spans number }
-{
-    layout.spans.as_slice().get(number as usize).copied()
-}
-
 /// The write span that covers a position of a stream.
 pub(crate) fn writer(layout: &Layout, stream: u32, position: u64) -> Option<Span>
     requires layout { IsLayout layout.now }
@@ -29,7 +22,7 @@ pub(crate) fn writer(layout: &Layout, stream: u32, position: u64) -> Option<Span
         → result ≡ option_map span_of (producer activations stream position) }
 {
     let number = layout.producer(stream, position)?;
-    span(layout, number)
+    layout.get_span(number)
 }
 
 /// The element of the input at a position.

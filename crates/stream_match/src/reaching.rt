@@ -141,7 +141,7 @@ impl Left {
         Ok(())
     }
 
-    /// Adds what a span of the frame of a number writes that leaves.
+    /// Adds those elements that a span of frame `from` writes and that leave the epoch.
     fn add_left(&mut self, span: Span, cursors: &[u64], from: u32, to: u32) -> Result<(), Memory>
         requires room { self.old.next + span.count < 2 ^ 32 }
         requires exists { span.stream < length cursors.now }
@@ -203,7 +203,7 @@ fn staying(span: Span, cursors: &[u64]) -> u64
     leaves_from(cursors, span.stream).saturating_sub(span.first)
 }
 
-/// From where on the elements of a stream leave.
+/// The first position of a stream whose element leaves the epoch.
 fn leaves_from(cursors: &[u64], stream: u32) -> u64
     requires { stream < length cursors.now }
     ensures { result ≡ leaves_from cursors.now stream }

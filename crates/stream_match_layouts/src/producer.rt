@@ -63,4 +63,11 @@ impl Layout {
     {
         self.spans.as_slice()[number]
     }
+
+    /// A span by its number, if there is one.
+    pub fn get_span(&self, number: u32) -> Option<Span>
+        ensures { result ≡ slice_get self.now.spans number }
+    {
+        self.spans.as_slice().get(number as usize).copied()
+    }
 }

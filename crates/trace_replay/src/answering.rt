@@ -1,5 +1,5 @@
 //! What is answered behind the heads that could run.
-ghost use Rattle.std.specs.Prelude.{◌≡◌, ◌≢◌, ◌<◌, ◌≤◌, ◌+◌, ℕ, None, Some, All, IfSome, IfNone, IfOk, IsSome, true, false, length, slice_index, slice_range};
+ghost use Rattle.std.specs.Prelude.{◌≡◌, ◌≢◌, ◌<◌, ◌≤◌, ◌+◌, ℕ, None, Some, All, IfSome, IfNone, IsSome, true, false, length, slice_index};
 ghost use Rattle.flow_core_laws.specs.Plans.{frame_at, held_at};
 ghost use Rattle.flow_core_laws.specs.IsSound.{IsSound, HasCell};
 ghost use Rattle.flow_core.specs.Counted.{IsCounted};
@@ -8,9 +8,8 @@ ghost use Rattle.trace_replay_laws.specs.Lists.{number_in};
 ghost use Rattle.trace_replay.specs.Standing.{IsFirstLeft, IsFirstHole, MayRun, IsLeastFree};
 
 use crate::lists::head;
-use flow_core::{Board, Ends, Plan};
-use os_io::{List, Memory};
-use std::alloc::Global;
+use flow_core::{Board, Plan};
+use os_io::List;
 
 /// The first list that isn't used up, and its head.
 pub(crate) fn first_left(lists: &[List<u32>], places: &[usize]) -> Option<(u32, u32)>
@@ -71,19 +70,4 @@ pub(crate) fn first_free(board: &Board, plan: &Plan) -> Option<u32>
         }
     }
     None
-}
-
-/// What the run came to: the ends, and the sink cells.
-pub(crate) fn close(alloc: Global, board: &Board, plan: &Plan) -> Result<Ends, Memory>
-    requires { plan.now.sink.cell + plan.now.sink.inputs ≤ length board.now.cells.items }
-    ensures ends { IfOk result (λ e. e.ends ≡ board.now.ends.items) }
-    ensures output { IfOk result (λ e. e.output
-        ≡ slice_range board.now.cells.items plan.now.sink.cell (plan.now.sink.cell + plan.now.sink.inputs)) }
-{
-    let first = plan.sink.cell as usize;
-    let output = &board.cells[first..first + plan.sink.inputs as usize];
-    Ok(Ends {
-        ends: List::from_slice(alloc, board.ends.as_slice())?,
-        output: List::from_slice(alloc, output)?,
-    })
 }

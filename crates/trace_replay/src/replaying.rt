@@ -7,7 +7,7 @@ ghost use Rattle.trace_replay_laws.specs.Answers.{AreFrames, IsAnswer};
 ghost use Rattle.trace_replay.specs.Owners.{AreOwners};
 ghost use Rattle.trace_replay.specs.Standing.{Stands, AreQueued, HeadWaits};
 
-use crate::answering::{close, first_free, first_hole, first_left};
+use crate::answering::{first_free, first_hole, first_left};
 use crate::lists::{first_stranger, head};
 use crate::owners::{Owners, owners_of};
 use flow_core::{Board, Bodies, FrameBuffers, Plan, run_frame};
@@ -151,7 +151,7 @@ fn answer<B: Bodies>(
     if let Some(frame) = first_free(board, plan) {
         return Ok(Replayed::Short { frame });
     }
-    let ends = close(alloc, board, plan)?;
+    let ends = board.close(alloc, plan)?;
     Ok(Replayed::Whole(ends))
 }
 

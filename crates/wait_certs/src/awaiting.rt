@@ -1,4 +1,4 @@
-ghost use Rattle.std.specs.Prelude.{◌≡◌, ◌<◌, All, List, length, slice_get};
+ghost use Rattle.std.specs.Prelude.{◌≡◌, ◌<◌, All, List, length};
 ghost use Rattle.std.specs.List.{flat_map, list_any};
 ghost use Rattle.std.specs.Option.{option_map};
 ghost use Rattle.flow_core_laws.specs.declared.activation.Activation.{Activation};
@@ -75,13 +75,6 @@ fn producing(layout: &Layout, stream: u32, position: u64) -> Option<u32>
         → result ≡ option_map (λ w. w.activation) (producer activations stream position) }
 {
     let number = layout.producer(stream, position)?;
-    let span = span(layout, number)?;
+    let span = layout.get_span(number)?;
     Some(u32::from(span.frame))
-}
-
-/// A span by its number.
-fn span(layout: &Layout, number: u32) -> Option<Span>
-    ensures { result ≡ slice_get layout.now.spans number }
-{
-    layout.spans.as_slice().get(number as usize).copied()
 }

@@ -6,4 +6,4 @@ pub returns-in_err-number : goal.returns-in_err-number
 returns-in_err-number c = λ activations of. c.from_residual.ensures ∙ span_by_number c.args.layout.now activations of c.args.stream c.args.position None (c.in_err-number.ensures activations of)
 
 pub returns : goal.returns
-returns c = λ activations of. c.span.ensures ∙ span_by_number c.args.layout.now activations of c.args.stream c.args.position (Some c.in_ok-number.number) (c.in_ok-number.ensures activations of)
+returns c = λ activations of. c.get_span.ensures ∙ span_by_number c.args.layout.now activations of c.args.stream c.args.position (Some c.in_ok-number.number) (c.in_ok-number.ensures activations of)
