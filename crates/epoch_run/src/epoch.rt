@@ -30,7 +30,7 @@ use std::alloc::Global;
 use std::mem;
 use std::sync::atomic::{AtomicU64, Ordering};
 use std::thread::Threads;
-use stream_match::{EpochPlan, Layout, build_ready};
+use stream_match::{Layout, ReadyPlan, build_ready};
 use task_vm::Scratch;
 use task_workers::Gate;
 
@@ -205,7 +205,7 @@ fn plan_these(
     readers: &[u32],
     frames: &[u32],
     held: &Held,
-) -> Result<EpochPlan, Memory>
+) -> Result<ReadyPlan, Memory>
     requires open { IsOpenEpoch bodies.now.code.now (all_of bodies.now) bodies.now.budgets.task layout.now input.now (listed held.now) }
     requires readers { readers.now ≡ open_in held.now.ends.ends (frame_count layout.now) }
     requires frames { LeaveOutWaiting (all_of bodies.now) input.now held.now.ends.ends frames.now }

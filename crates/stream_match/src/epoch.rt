@@ -9,13 +9,15 @@ ghost use Rattle.stream_match.specs.declared.stretch.Stretch.{Stretch};
 ghost use Rattle.stream_match_layouts.specs.Layout.{IsLayout, IsLayoutOf};
 ghost use Rattle.stream_match_layouts.specs.Spans.{frame_count};
 ghost use Rattle.stream_match.specs.EpochPlan.{AreFrames, WrittenOutside, GoesOn, GoesOnFor, IsEpochPlanOf};
-ghost use Rattle.stream_match.specs.Kept.{kept_of, IsKeptOutside};
+ghost use Rattle.stream_match.specs.Kept.{kept_of, place_of, IsKeptOutside};
 ghost use Rattle.stream_match.specs.EpochCode.{AreSorted};
 ghost use Rattle.stream_match.specs.Stretch.{stretch_places};
 
 use crate::cursors::read_cursors;
 use crate::kept::Kept;
 use crate::look_up::sorted;
+use crate::place::Place;
+use crate::places::places_in;
 use crate::reaching::{Left, leaving, reading};
 use crate::stretch::Stretch;
 use crate::woven::weave_rows;
@@ -24,10 +26,20 @@ use os_io::{List, Memory};
 use std::alloc::Global;
 use stream_match_layouts::Layout;
 
-/// The plan of an epoch, its frames, and what leaves it: the cells of the sink are those of the first stretch, then those of the
-/// second, and so on.
+/// The plan of an epoch, its frames, and what leaves it, place by place: the stream and the position of each cell of the sink, in the
+/// order of the cells. Whoever asks which element a cell of the sink is finds it here.
 #[derive(Drop)]
 pub struct EpochPlan {
+    pub plan: Plan,
+    pub frames: List<u32>,
+    pub places: List<Place>,
+}
+
+/// The plan of an epoch that leaves some activations out, its frames, and what leaves it, stretch by stretch: the cells of the sink are
+/// those of the first stretch, then those of the second, and so on. A run in epochs goes by these, since it takes the elements of a
+/// stretch at once: no place is written down for each of them.
+#[derive(Drop)]
+pub struct ReadyPlan {
     pub plan: Plan,
     pub frames: List<u32>,
     pub leaves: List<Stretch>,
@@ -35,7 +47,7 @@ pub struct EpochPlan {
 
 /// The plan of an epoch over an input. Its frames are these activations, in order. The cells are those
 /// of their input windows, frame by frame, and behind them those of the sink: what the frames write to
-/// the output, or where it may still be read. What is kept is there from the start.
+/// the output, or where it may still be read. What is kept is there from the start. It tells the place of each cell of the sink.
 pub fn build_epoch(
     alloc: Global,
     layout: &Layout,
@@ -51,16 +63,21 @@ pub fn build_epoch(
     ensures sound { IfOk result (λ epoch. IsSound epoch.plan) }
     ensures stands_for { IfOk result (λ epoch. (activations : List Activation) → IsLayoutOf layout.now activations
         → IsOutside activations frames.now (map kept_of kept.now)
-        → StandsForEpoch epoch.plan activations input.now frames.now frames.now (map kept_of kept.now) (flat_map stretch_places epoch.leaves)) }
-    ensures small { IfOk result (λ epoch. All (λ (s : Stretch). s.first + s.count < 2 ^ 64) epoch.leaves) }
+        → StandsForEpoch epoch.plan activations input.now frames.now frames.now (map kept_of kept.now) (map place_of epoch.places)) }
     ensures adds_up { IfOk result (λ epoch. GoesOn layout.now input.now frames.now (map kept_of kept.now) epoch.plan) }
 {
-    let epoch = build_ready(alloc, layout, frames, frames, kept, input)?;
-    Ok(epoch)
+    let ready = build_ready(alloc, layout, frames, frames, kept, input)?;
+    let places = places_in(alloc, ready.leaves.as_slice(), ready.plan.sink.inputs)?;
+    let ReadyPlan { plan, frames, .. } = ready;
+    Ok(EpochPlan {
+        plan,
+        frames,
+        places,
+    })
 }
 
 /// The plan of an epoch that leaves some activations out, as `build_epoch` gives it: the frames are some of the readers, and
-/// an element that a frame writes leaves where readers or later activations may still read it.
+/// an element that a frame writes leaves where readers or later activations may still read it. What leaves it tells by stretches.
 pub fn build_ready(
     alloc: Global,
     layout: &Layout,
@@ -68,7 +85,7 @@ pub fn build_ready(
     frames: &[u32],
     kept: &[Kept],
     input: &[u8],
-) -> Result<EpochPlan, Memory>
+) -> Result<ReadyPlan, Memory>
     requires layout { IsLayout layout.now }
     requires input { length input.now ≡ layout.now.input_len }
     requires readers { All (λ f. f < frame_count layout.now) readers.now }
@@ -95,7 +112,7 @@ fn plan_of(
     frames: &[u32],
     kept: &[Kept],
     input: &[u8],
-) -> Result<EpochPlan, Memory>
+) -> Result<ReadyPlan, Memory>
     requires layout { IsLayout layout.now }
     requires readers { All (λ f. f < frame_count layout.now) readers.now }
     requires frames { AreFrames layout.now frames.now }
@@ -117,7 +134,7 @@ fn plan_of(
 }
 
 /// The plan of an epoch with no frames.
-fn nothing(alloc: Global) -> EpochPlan
+fn nothing(alloc: Global) -> ReadyPlan
     ensures frames { result.frames ≡ [] }
     ensures small { All (λ (s : Stretch). s.first + s.count < 2 ^ 64) result.leaves }
     ensures plan { (layout : Layout) (input : List ℕ) (kept : List epoch.Kept) (cursors : List ℕ)
@@ -138,7 +155,7 @@ fn nothing(alloc: Global) -> EpochPlan
         filled: List::new(alloc),
         numbers: List::new(alloc),
     };
-    EpochPlan {
+    ReadyPlan {
         plan,
         frames: List::new(alloc),
         leaves: List::new(alloc),
@@ -153,7 +170,7 @@ fn weave(
     cursors: &[u64],
     kept: &[Kept],
     input: &[u8],
-) -> Result<EpochPlan, Memory>
+) -> Result<ReadyPlan, Memory>
     requires layout { IsLayout layout.now }
     requires frames { AreFrames layout.now frames.now }
     requires cursors { length cursors.now ≡ length layout.now.writers }
@@ -171,7 +188,7 @@ fn weave(
     let plan = weave_rows(alloc, layout, frames, &read, &left, kept, input)?;
     let frames = List::from_slice(alloc, frames)?;
     let Left { stretches, .. } = left;
-    Ok(EpochPlan {
+    Ok(ReadyPlan {
         plan,
         frames,
         leaves: stretches,

@@ -3,8 +3,8 @@
 //! A layout (`stream_match_layouts`) has the positions of all claims. `build` works out the plan of the whole
 //! run over an input: each frame's cells, and pieces that carry output elements into them, each as long as it
 //! can be. `build_epoch` does so for some of the activations, where elements of others are kept, and tells
-//! which elements leave; `build_ready` does so where some that read them are left out; `read_cursors` has the positions from which on
-//! elements may still be read.
+//! the place of each element that leaves; `build_ready` does so where some that read them are left out, and tells by stretches what
+//! leaves; `read_cursors` has the positions from which on elements may still be read.
 //!
 //! Its promise is the meaning of the activations in `flow_core_laws`, and that of epochs in `flow_core_epochs`:
 //! the plan is sound and stands for the activations and the input. That the plan of an epoch and that of a
@@ -24,13 +24,14 @@ mod nearby;
 mod numbers;
 mod pieces;
 mod place;
+mod places;
 mod plan;
 mod reaching;
 mod stretch;
 mod woven;
 
 pub use cursors::read_cursors;
-pub use epoch::{EpochPlan, build_epoch, build_ready};
+pub use epoch::{EpochPlan, ReadyPlan, build_epoch, build_ready};
 pub use kept::Kept;
 pub use place::Place;
 pub use plan::build;
