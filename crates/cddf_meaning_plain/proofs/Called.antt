@@ -7,12 +7,12 @@ use Rattle.cddf_meaning.specs.Run.{run_all}
 use Rattle.cddf_meaning.specs.BodyState.{BodyState, state_of}
 use Rattle.os_ast.specs.Notes.Programs.{param_list}
 use Rattle.os_ast.specs.Trees as tree
-use Rattle.os_ast.specs.Views.{item_tree, stmts_tree}
+use Rattle.os_ast.specs.Views.{function_tree, item_tree, stmts_tree}
 use Rattle.os_ast.specs.declared.program.Function.{Function}
 use Rattle.os_ast.specs.declared.program.Item.{Item}
 use Rattle.cddf_meaning_plain.specs.Calls.{called_by}
 use Rattle.cddf_meaning_plain_state.proofs.Reached.{map-take-tree}
-use Rattle.cddf_meaning_plain_state.specs.FunctionTrees.{function_of, function_tree}
+use Rattle.cddf_meaning_plain_state.specs.FunctionTrees.{function_of}
 
 called-other : (file : File) (f : tree.FunctionTree) (n : ℕ) (args : List ℤ) (turns : ℕ) → n ≢ file.count →
     (calls_with file (tree.Function f)) n args turns ≡ file.calls n args turns

@@ -2,15 +2,12 @@
 
 ghost use Rattle.std.specs.Prelude.{◌≤◌, map};
 ghost use Rattle.cddf_meaning.specs.Functions.{call_function, file_of};
-ghost use Rattle.os_ast.specs.Views.{item_tree};
-ghost use Rattle.cddf_meaning_plain_state.specs.FunctionTrees.{function_tree};
+ghost use Rattle.os_ast.specs.Views.{function_tree, item_tree};
 ghost use Rattle.cddf_meaning_plain_state.specs.Stops.{Gives};
 
 use crate::run::stmts;
 use cddf_meaning_plain_state::Stop;
-use cddf_meaning_plain_state::functions::{
-    function_at, param_list, result_of, take_unit, with_params,
-};
+use cddf_meaning_plain_state::functions::{function_at, result_of, take_unit, with_params};
 use cddf_meaning_plain_tasks::Around;
 use os_ast::{Function, Item};
 use std::alloc::Global;
@@ -46,7 +43,7 @@ fn entered(
     ensures fewer { turns.new ≤ turns.old }
 {
     take_unit(turns)?;
-    let mut state = with_params(alloc, param_list(&function.params), args)?;
+    let mut state = with_params(alloc, function.params.list(), args)?;
     let around = Around {
         file,
         control: None,

@@ -5,15 +5,14 @@ ghost use Rattle.std.specs.Prelude.{◌≡◌, ◌+◌, ◌<◌, ◌≤◌, IfEr
 ghost use Rattle.cddf_meaning.specs.Functions.{bind_params, result_of};
 ghost use Rattle.cddf_meaning.specs.BodyState as states;
 ghost use Rattle.cddf_meaning.specs.declared.ending.Ending.TheVariants as endings;
-ghost use Rattle.os_ast.specs.Notes.Programs.{param_list};
-ghost use Rattle.os_ast.specs.Views.{item_tree};
-ghost use Rattle.cddf_meaning_plain_state.specs.FunctionTrees.{function_of, function_tree};
+ghost use Rattle.os_ast.specs.Views.{function_tree, item_tree};
+ghost use Rattle.cddf_meaning_plain_state.specs.FunctionTrees.{function_of};
 ghost use Rattle.cddf_meaning_plain_state.specs.declared.stop.Stop.TheVariants as stops;
 
 use crate::body_state::BodyState;
 use crate::stop::Stop;
 use cddf_meaning::{Flow, Variable};
-use os_ast::{Function, Item, Param, Params};
+use os_ast::{Function, Item, Param};
 use os_io::Memory;
 use std::alloc::Global;
 
@@ -37,16 +36,6 @@ pub fn result_of(flow: Flow) -> i32
     match flow {
         Flow::Returns(number) => number,
         Flow::GoesOn | Flow::Breaks | Flow::Continues => 0,
-    }
-}
-
-/// The parameters, in the order of the text.
-pub fn param_list(params: &Params) -> &[Param]
-    ensures { result.now ≡ param_list params.now }
-{
-    match params {
-        Params::Empty | Params::Void => &[],
-        Params::Names(params) => params.as_slice(),
     }
 }
 

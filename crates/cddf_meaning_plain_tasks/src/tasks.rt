@@ -7,8 +7,7 @@ ghost use Rattle.os_ast.specs.Names.{main_id};
 ghost use Rattle.os_ast.specs.ClauseParts.{is_in, parts};
 ghost use Rattle.os_ast.specs.Trees as tree;
 ghost use Rattle.os_ast.specs.Unsigned.{is_unsigned};
-ghost use Rattle.os_ast.specs.Views.{clause_tree, declarator_tree, item_tree, start_tree, stmt_tree, stmts_tree};
-ghost use Rattle.cddf_meaning_plain_state.specs.FunctionTrees.{function_tree};
+ghost use Rattle.os_ast.specs.Views.{clause_tree, declarator_tree, function_tree, item_tree, start_tree, stmt_tree, stmts_tree};
 ghost use Rattle.cddf_meaning.specs.Tasks.{among, task_at, tasks_in, tasks_in_all, known_behind, known_declarator, known_flag};
 ghost use Rattle.cddf_meaning.specs.Tasks.{known_in_main, known_item, known_start, others, typed_known, with_all_known, with_known};
 ghost use Rattle.cddf_meaning_plain_tasks.specs.Sought.{task_of};
@@ -17,7 +16,6 @@ use crate::found_task::FoundTask;
 use crate::items::item_ids;
 use crate::naming::in_task;
 use cddf_meaning::{KnownName, TypedName};
-use cddf_meaning_plain_state::functions::param_list;
 use cddf_meaning_plain_state::names::{item_id, item_unsigned};
 use os_ast::{Declarator, Function, Head, Item, Start, Stmt, TaskSite, Ty};
 use os_io::{List, Memory};
@@ -298,7 +296,7 @@ fn known_in_main(alloc: Global, main: &Main<'_>) -> Result<Vec<KnownName>, Memor
         scalar: true,
         unsigned: false,
     })?;
-    for param in param_list(&main.function.params) {
+    for param in main.function.params.list() {
         known.push(KnownName {
             id: param.name.id,
             scalar: true,

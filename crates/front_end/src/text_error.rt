@@ -1,6 +1,7 @@
 ghost use Rattle.std.specs.Prelude.{◌≡◌};
 ghost use Rattle.front_end.specs.Told.{told_fault, told_syntax, told_violation};
 
+use os_ast::NO_PROGRAM;
 use os_lexer::LexError;
 use os_parser::ParseError;
 use thiserror::Error;
@@ -35,7 +36,10 @@ pub(crate) fn syntax_error(error: ParseError) -> TextError
     ensures { result ≡ told_syntax error }
 {
     match error {
-        ParseError::Syntax { line, .. } => TextError::Refused { code: 4, line },
+        ParseError::Syntax { line, .. } => TextError::Refused {
+            code: NO_PROGRAM,
+            line,
+        },
         ParseError::Memory => TextError::Memory,
     }
 }

@@ -11,7 +11,7 @@ ghost use Rattle.lowering_relation.specs.Tasks.{program_tasks};
 ghost use Rattle.window_check_laws.specs.Sums.{stmt_slots};
 
 use crate::units::{emit_task_body, is_main};
-use lowering_draft::{Told, Units, captured_at, listed, site_items, stmt_slots};
+use lowering_draft::{Told, Units, captured_at, site_items, stmt_slots};
 use os_ast::{Item, Owner, Stmt, TaskSite};
 use os_code::Site;
 use os_io::{List, Memory};
@@ -102,7 +102,7 @@ fn add_task(
 {
     // 2^32 units wouldn't fit into memory.
     let unit = u32::try_from(made.units.len()).map_err(|_| Memory)?;
-    let captured = listed(alloc, captured_at(captured, made.sites.len()))?;
+    let captured = List::from_slice(alloc, captured_at(captured, made.sites.len()))?;
     let items = site_items(alloc, told, &site.clauses)?;
     add_unit(made, told, captured.len(), &site.body)?;
     made.sites.push(Site {

@@ -4,7 +4,6 @@ ghost use Rattle.std.specs.Prelude.{◌≡◌, ◌==◌, OnOk, map};
 ghost use Rattle.lowering_draft.specs.Emission.Units.{
   exits_of,
   function_code,
-  function_tree,
   main_code,
   task_code,
   with_functions,
@@ -13,13 +12,12 @@ ghost use Rattle.lowering_draft.specs.Emission.Units.{
   with_plain,
 };
 ghost use Rattle.os_ast.specs.Names.{main_id};
-ghost use Rattle.os_ast.specs.Notes.Programs.{param_list};
-ghost use Rattle.os_ast.specs.Views.{item_tree, stmt_tree, stmts_tree};
+ghost use Rattle.os_ast.specs.Views.{function_tree, item_tree, stmt_tree, stmts_tree};
 ghost use Rattle.lowering_relation.specs.Names.{told_at};
 
 use crate::statements::{emit_block, emit_stmt};
 use lowering_draft::{Draft, Exits, Label, Told, Units, stmts_slots};
-use os_ast::{Function, Item, Owner, Param, Params, Stmt};
+use os_ast::{Function, Item, Owner, Stmt};
 use os_code::Instr;
 use os_io::{List, Memory};
 use os_lexer::names::MAIN;
@@ -69,7 +67,7 @@ fn add_function(made: &mut Units, told: &Told<'_>, function: &Function) -> Resul
     let start = made.draft.instrs.len();
     emit_function(&mut made.draft, told, &function.body)?;
     // 2^32 parameters wouldn't fit into memory.
-    let args = u32::try_from(param_list(&function.params).len()).map_err(|_| Memory)?;
+    let args = u32::try_from(function.params.list().len()).map_err(|_| Memory)?;
     let slots = args.saturating_add(stmts_slots(told, Owner::OfFunction, &function.body));
     made.add(start, args, slots)
 }
@@ -86,16 +84,6 @@ fn add_main(made: &mut Units, told: &Told<'_>, function: &Function) -> Result<()
     made.add(start, 1, slots)?;
     made.main = number;
     Ok(())
-}
-
-/// The parameters of a function.
-fn param_list(params: &Params) -> &[Param]
-    ensures { result.now ≡ param_list params.now }
-{
-    match params {
-        Params::Empty | Params::Void => &[],
-        Params::Names(params) => params.as_slice(),
-    }
 }
 
 /// A function's code: behind its body it returns 0.

@@ -33,7 +33,7 @@ pub use names::{
     reading_at, storing, storing_at,
 };
 pub use operators::{emit_operation, literal};
-pub use sites::{captured_at, listed, site_items};
+pub use sites::{captured_at, site_items};
 pub use slots::{stmt_slots, stmts_slots};
 pub use told::Told;
 pub use units::Units;

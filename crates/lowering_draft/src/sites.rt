@@ -24,18 +24,6 @@ pub fn captured_at(captured: &[List<u32>], number: usize) -> &[u32]
     }
 }
 
-/// A list of these slots.
-pub fn listed(alloc: Global, slots: &[u32]) -> Result<List<u32>, Memory>
-    ensures { IfOk result (λ list. list ≡ slots.now) }
-{
-    let mut list = List::new(alloc);
-    list.reserve(slots.len())?;
-    for slot in slots {
-        list.push(*slot)?;
-    }
-    Ok(list)
-}
-
 /// The items of a task's clauses.
 #[tactic(auto, using(crate::proofs::Rules::sites))]
 pub fn site_items(

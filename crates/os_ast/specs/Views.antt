@@ -11,6 +11,7 @@ use Rattle.os_ast.specs.declared.pragma.ClauseItem.{ClauseItem}
 use Rattle.os_ast.specs.declared.pragma.ClauseKind.{ClauseKind}
 use Rattle.os_ast.specs.declared.pragma.ClauseKind.TheVariants as kind
 use Rattle.os_ast.specs.declared.pragma.Join.{Join}
+use Rattle.os_ast.specs.declared.program.Function.{Function}
 use Rattle.os_ast.specs.declared.program.Item.{Item}
 use Rattle.os_ast.specs.declared.program.Item.TheVariants as item
 use Rattle.os_ast.specs.declared.program.Program.{Program}
@@ -122,9 +123,12 @@ abbrev pub stmts_tree : List stmt.Stmt → tree.Stmts
 stmts_tree [] = tree.no_stmts
 stmts_tree (s ∷ ss) = tree.stmt (stmt_tree s) (stmts_tree ss)
 
+abbrev pub function_tree : Function → tree.FunctionTree
+function_tree f = record { ty = f.ty; name = f.name; params = f.params; body = stmts_tree f.body }
+
 abbrev pub item_tree : Item → tree.ItemTree
 item_tree (item.Constant c) = tree.Constant c
-item_tree (item.Function f) = tree.Function record { ty = f.ty; name = f.name; params = f.params; body = stmts_tree f.body }
+item_tree (item.Function f) = tree.Function (function_tree f)
 
 abbrev pub program_tree : Program → tree.ProgramTree
 program_tree p = map item_tree p.items

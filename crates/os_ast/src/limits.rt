@@ -1,5 +1,7 @@
-//! How large what a program declares may be.
+//! How deep a program may be, and how much it may declare.
 
+/// How deep a program may be.
+pub const DEPTH_LIMIT: u32 = 200;
 /// The most elements of a local array, and the most streams of an array of streams.
 pub const SIZE_LIMIT: u32 = 65_536;
 /// The most elements of the local arrays of one function or task.

@@ -1,5 +1,6 @@
 ghost use Rattle.std.specs.Prelude.{◌≡◌};
 ghost use Rattle.os_ast.specs.Names.{constant_value};
+ghost use Rattle.os_ast.specs.Notes.Programs.{param_list};
 
 use crate::expr::Name;
 use crate::stmt::Stmt;
@@ -56,6 +57,18 @@ pub enum Params {
     Empty,
     Void,
     Names(List<Param>),
+}
+
+impl Params {
+    /// The parameters, in the order of the text.
+    pub fn list(&self) -> &[Param]
+        ensures { result.now ≡ param_list self.now }
+    {
+        match self {
+            Params::Empty | Params::Void => &[],
+            Params::Names(params) => params.as_slice(),
+        }
+    }
 }
 
 #[derive(Drop)]

@@ -1,6 +1,9 @@
 ghost use Rattle.std.specs.Prelude.{◌≡◌};
 ghost use Rattle.os_ast.specs.Codes.{code};
 
+/// The code of a text whose tokens mean no program.
+pub const NO_PROGRAM: u8 = 4;
+
 /// The rules for names and declarations, in the order of their codes.
 #[derive(Clone, Copy, Debug, PartialEq, Eq, PartialOrd, Ord)]
 pub enum Rule {

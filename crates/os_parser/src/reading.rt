@@ -7,15 +7,12 @@ ghost use Rattle.os_parser.specs.declared.parse_error.ParseError.TheVariants as 
 
 use crate::parse_error::ParseError;
 use crate::program::program;
-use os_ast::Program;
+use os_ast::{DEPTH_LIMIT, Program};
 use os_io::Memory;
 use os_lexer::Token;
 use os_parser_expressions::{Cursor, ProductionError};
 use os_parser_places::refusals_stand_at_their_place;
 use std::alloc::Global;
-
-/// How deep a program may be.
-const DEPTH_LIMIT: u32 = 200;
 
 /// The program that the tokens mean, or the place where they stop being the front of any. It takes time linear in the
 /// tokens, and stack for the limit of depth.

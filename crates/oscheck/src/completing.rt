@@ -8,9 +8,9 @@ use crate::judged::Judged;
 use crate::judging::tell_fault;
 use crate::telling::{Named, tell_no_memory};
 use front_end::{TEXT_LIMIT, TextError, read_program};
+use os_ast::NO_PROGRAM;
 use os_io::Memory;
 use oscheck_places::TextFault;
-use oscheck_sentences::NO_PROGRAM;
 use std::alloc::Global;
 use std::io;
 

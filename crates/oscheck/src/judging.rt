@@ -11,11 +11,11 @@ use crate::syntax_error::SyntaxError;
 use crate::telling::{Named, show, tell_more, tell_no_memory, tell_place};
 use crate::warning::tell_accepted;
 use front_end::{TEXT_LIMIT, TextError, read_program};
-use os_ast::{Rule, Violation};
+use os_ast::{NO_PROGRAM, Rule, Violation};
 use os_io::Memory;
 use os_lexer::{Kind, Token, lex};
 use oscheck_places::{Spot, TextFault, fault_spot};
-use oscheck_sentences::{NO_PROGRAM, Word, of_fault, of_rule, word_of};
+use oscheck_sentences::{Word, of_fault, of_rule, word_of};
 use std::alloc::Global;
 use std::io;
 

@@ -12,5 +12,5 @@ mod sentences;
 mod word;
 
 pub use c_words::missing;
-pub use sentences::{NO_PROGRAM, Sentence, of_fault, of_rule};
+pub use sentences::{Sentence, of_fault, of_rule};
 pub use word::{Word, word_of, write_choice};

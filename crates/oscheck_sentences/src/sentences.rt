@@ -6,9 +6,6 @@ use os_lexer::Kind;
 use oscheck_places::TextFault;
 use std::io;
 
-/// The code of a text whose tokens mean no program. What could stand at the place is told in place of a sentence.
-pub const NO_PROGRAM: u8 = 4;
-
 /// A sentence about a word, which stands between its two parts.
 #[derive(Clone, Copy)]
 pub struct Sentence {

@@ -7,7 +7,7 @@ ghost use Rattle.os_ast.specs.Rules.{when};
 ghost use Rattle.window_check_names.specs.BrokenRules.{least_rule};
 ghost use Rattle.os_ast.specs.declared.rule.Rule.TheVariants.{DeclaredTwice};
 ghost use Rattle.os_ast.specs.Notes.Kinds.{Given};
-ghost use Rattle.os_ast.specs.Notes.Programs.{owner_of, param_list, after_param, after_params, params_notes};
+ghost use Rattle.os_ast.specs.Notes.Programs.{owner_of, after_param, after_params, params_notes};
 ghost use Rattle.os_ast.specs.Notes.Programs.{after_item, item_notes, after_items, items_notes, in_function};
 ghost use Rattle.os_ast.specs.Trees as tree;
 ghost use Rattle.os_ast.specs.Views.{item_tree};
@@ -19,7 +19,7 @@ ghost use Rattle.window_check_laws.specs.Room.{HasRoom, item_weight, items_weigh
 ghost use Rattle.window_check_names.specs.Scopes.{around_of};
 
 use crate::statements::stmts;
-use os_ast::{Constant, Entity, Form, Function, Item, Name, Owner, Param, Params, Rule};
+use os_ast::{Constant, Entity, Form, Function, Item, Name, Owner, Param, Rule};
 use os_io::{List, Memory};
 use os_lexer::names::MAIN;
 use std::alloc::Global;
@@ -34,16 +34,6 @@ fn owner_of(id: u32) -> Owner
         Owner::OfMain
     } else {
         Owner::OfFunction
-    }
-}
-
-/// The parameters of a function.
-fn param_list(params: &Params) -> &[Param]
-    ensures { result.now ≡ param_list params.now }
-{
-    match params {
-        Params::Empty | Params::Void => &[],
-        Params::Names(params) => params.as_slice(),
     }
 }
 
@@ -124,13 +114,13 @@ fn function(
     ensures found { OnOk result (found.new ≡ noted found.old (item_notes scopes.old (item_tree (variant.Function function.now)))) }
 {
     let name = function.name;
-    let list = param_list(&function.params);
+    let names = function.params.list();
     found.add_violation(name.mark, twice(scopes, name))?;
     let around = begin_function(alloc, scopes, name.id)?;
-    params(scopes, found, list)?;
+    params(scopes, found, names)?;
     stmts(alloc, scopes, found, &function.body)?;
     scopes.end(around);
-    scopes.declare_function(name.id, list.len() as u32, function.ty.is_unsigned())
+    scopes.declare_function(name.id, names.len() as u32, function.ty.is_unsigned())
 }
 
 /// A constant or a function.
@@ -175,7 +165,7 @@ fn is_main(item: &Item) -> bool
         Item::Function(function) => {
             function.name.id == MAIN
                 && !function.ty.is_unsigned()
-                && param_list(&function.params).is_empty()
+                && function.params.list().is_empty()
         }
     }
 }

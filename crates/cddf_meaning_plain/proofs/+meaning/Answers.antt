@@ -15,10 +15,9 @@ use Rattle.os_ast.proofs.Rows.{expr_tree-call, expr_tree-chain, stmt_tree-block}
 use Rattle.cddf_meaning.specs.Functions.{bind_params, file_of, result_of, returned}
 use Rattle.cddf_meaning.specs.BodyState.{state_of}
 use Rattle.cddf_meaning_plain_state.specs.Claimed.{behind}
-use Rattle.cddf_meaning_plain_state.specs.FunctionTrees.{function_tree}
 use Rattle.cddf_meaning_plain_tasks.specs.Arounds.{around_of}
 use Rattle.cddf_meaning_plain.specs.Weights.{args_weight, clause_weight, declarator_weight, expr_weight, file_weight, item_weight, links_weight, stmt_weight, stmts_weight, weights}
-use Rattle.os_ast.specs.Views.{args_tree, change_tree, clause_item_tree, clause_kind_tree, clause_tree, declarator_tree, expr_tree, item_tree, links_tree, stmt_tree, stmts_tree}
+use Rattle.os_ast.specs.Views.{args_tree, change_tree, clause_item_tree, clause_kind_tree, clause_tree, declarator_tree, expr_tree, function_tree, item_tree, links_tree, stmt_tree, stmts_tree}
 use Rattle.cddf_meaning_plain.proofs.Claiming.{clause-goes, clause-stops, privates-claim}
 use Rattle.cddf_meaning_plain.proofs.Lighter.{arg-lighter, function-lighter, link-lighter, part-lighter, stmt-lighter}
 use Rattle.cddf_meaning_plain.proofs.Looping.{loop-kept, loop-left, not-zero}
@@ -272,7 +271,7 @@ functions::entered-returns-in_err-take_unit-clause-gives t c =
 pub functions::entered-returns-in_err-flow-clause-gives : goal.functions::entered-returns-in_err-flow-clause-gives
 functions::entered-returns-in_err-flow-clause-gives t c =
     let state = c.in_ok-state.ensures
-    ∙ ap (λ ns. state_of (bind_params ns c.args.args.now []) []) c.param_list.ensures in
+    ∙ ap (λ ns. state_of (bind_params ns c.args.args.now []) []) c.list.ensures in
     let runs = call-one (file_of (map item_tree c.args.file.now)) c.args.function.now c.args.args.now c.args.turns.now c.take_unit.new.turns
     c.in_ok-state.state c.in_ok-take_unit.ensures.taken state in
     let p = err_from_is_err_and c.from_residual-in_err-flow.result c.from_residual-in_err-flow.ensures.1 in
@@ -281,7 +280,7 @@ functions::entered-returns-in_err-flow-clause-gives t c =
 pub functions::entered-returns-clause-gives : goal.functions::entered-returns-clause-gives
 functions::entered-returns-clause-gives t c =
     let state = c.in_ok-state.ensures
-    ∙ ap (λ ns. state_of (bind_params ns c.args.args.now []) []) c.param_list.ensures in
+    ∙ ap (λ ns. state_of (bind_params ns c.args.args.now []) []) c.list.ensures in
     let runs = call-one (file_of (map item_tree c.args.file.now)) c.args.function.now c.args.args.now c.args.turns.now c.take_unit.new.turns
     c.in_ok-state.state c.in_ok-take_unit.ensures.taken state in
     let given : result_of c.in_ok-flow.flow ≡ to_z w32 (of_z w32 c.result_of.result) = search (rules, c.result_of.ensures) in

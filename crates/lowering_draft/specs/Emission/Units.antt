@@ -11,11 +11,10 @@ use Rattle.os_ast.specs.Names.{main_id}
 use Rattle.os_ast.specs.Notes.Programs.{param_list}
 use Rattle.os_ast.specs.ClauseParts.{parts}
 use Rattle.os_ast.specs.Trees as tree
-use Rattle.os_ast.specs.Views.{clause_tree, stmt_tree, stmts_tree}
+use Rattle.os_ast.specs.Views.{clause_tree, stmt_tree}
 use Rattle.os_ast.specs.declared.names.Owner.TheVariants as owner
 use Rattle.os_ast.specs.declared.names.Resolved.{Resolved}
 use Rattle.os_ast.specs.declared.pragma.TaskSite.{TaskSite}
-use Rattle.os_ast.specs.declared.program.Function.{Function}
 use Rattle.os_code.specs.declared.instr.Instr.{Instr}
 use Rattle.os_code.specs.declared.instr.Instr.TheVariants.{Push, Return, End}
 use Rattle.os_code.specs.declared.parts.Parts.{Parts}
@@ -24,10 +23,7 @@ use Rattle.lowering_relation.specs.Programs.{size_by}
 use Rattle.lowering_relation.specs.Tasks.{TaskTree, program_tasks, site_items}
 use Rattle.window_check_laws.specs.Sums.{stmt_slots, stmts_slots}
 
--- the tree of a function, and of a task's pragma
-abbrev pub function_tree : Function → tree.FunctionTree
-function_tree f = record { ty = f.ty; name = f.name; params = f.params; body = stmts_tree f.body }
-
+-- the tree of a task's pragma
 abbrev pub task_tree : TaskSite → TaskTree
 task_tree t = record { mark = t.mark; parts = parts (map clause_tree t.clauses); body = stmt_tree t.body }
 

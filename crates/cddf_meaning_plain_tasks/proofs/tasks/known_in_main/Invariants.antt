@@ -1,7 +1,6 @@
 use Rattle.std.proofs.Common.{◌≡◌, ◌++◌, drop, map}
 use Rattle.cddf_meaning.specs.Tasks.{known_in_main, known_param}
-use Rattle.cddf_meaning_plain_state.specs.FunctionTrees.{function_tree}
-use Rattle.os_ast.specs.Views.{item_tree}
+use Rattle.os_ast.specs.Views.{function_tree, item_tree}
 use Rattle.cddf_meaning_plain_tasks.proofs.tasks.known_in_main.Given as goal
 
 abbrev pub invariant-loop-param : goal.invariant-loop-param

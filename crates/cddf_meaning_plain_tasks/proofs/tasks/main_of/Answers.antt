@@ -1,9 +1,8 @@
 use Rattle.std.proofs.Common.{◌<◌, length, map, Some, add-one, ap, sym, ◌∙◌, arith}
 use Rattle.cddf_meaning.specs.Program.{main_at}
-use Rattle.cddf_meaning_plain_state.specs.FunctionTrees.{function_tree}
 use Rattle.cddf_meaning_plain_tasks.proofs.Mains.{main-from, main_here, main_past}
 use Rattle.cddf_meaning_plain_state.proofs.Reached.{map-take-tree}
-use Rattle.os_ast.specs.Views.{item_tree}
+use Rattle.os_ast.specs.Views.{function_tree, item_tree}
 use Rattle.cddf_meaning_plain_tasks.proofs.tasks.main_of.Goals as goal
 
 pub returns-in-Some-clause-main : goal.returns-in-Some-clause-main
