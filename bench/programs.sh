@@ -127,6 +127,27 @@ int main(void) {
 }
 END
 
+# Each first task of a pair waits for the second one, so that the run goes through epochs.
+cat >swapped.c <<'END'
+int main(void) {
+    int mid __attribute__((stream));
+    int i;
+    for (i = 0; i + 1 < osin_len; i += 2) {
+        int a[2], m[2], q[2], o[2];
+        #pragma omp task input(mid >> q[2]) output(osout << o[2])
+        {
+            o[0] = q[0];
+            o[1] = q[1];
+        }
+        #pragma omp task input(osin >> a[2]) output(mid << m[2])
+        {
+            m[0] = a[1];
+            m[1] = a[0];
+        }
+    }
+}
+END
+
 # Inputs: bytes of a generator, made in parts of 4,096.
 awk 'BEGIN { x = 1; for (k = 0; k < 4096; k++) { x = x * 16807 % 2147483647; printf "\\%03o", int(x / 65536 % 256) } }' >escaped
 printf "$(cat escaped)" >part
@@ -138,6 +159,7 @@ cp invert.in wavelet.in
 head -c 65536 lift.in >chain.in
 cp chain.in pipeline.in
 cp chain.in mixing.in
+cp chain.in swapped.in
 { cat chain.in; head -c 2 part; } >overlap.in
 
 # The same work in C.
@@ -232,6 +254,19 @@ static void wait_for_others(char kind, const unsigned char *in, unsigned char *o
         #pragma omp task firstprivate(i) depend(in: mid[i])
         mix_out(mid + i, out + i);
     }
+    // A task of OpenMP waits for earlier ones alone, so the two of a pair change places.
+    for (int i = 0; kind == 's' && i + 1 < length; i += 2) {
+        #pragma omp task firstprivate(i) depend(out: mid[i])
+        {
+            mid[i] = in[i + 1];
+            mid[i + 1] = in[i];
+        }
+        #pragma omp task firstprivate(i) depend(in: mid[i])
+        {
+            out[i] = mid[i];
+            out[i + 1] = mid[i + 1];
+        }
+    }
     for (int i = 0; kind == 'c' && i < length; i++) {
         #pragma omp task firstprivate(i) depend(inout: mid[0])
         out[i] = mid[0] = (mid[0] + in[i]) & 255;
@@ -251,7 +286,8 @@ int main(int argc, char **argv) {
         written = length > 2 ? length - 2 : 0;
         size = 1;
     }
-    int waits = strcmp(argv[1], "pipeline") == 0 || strcmp(argv[1], "mixing") == 0 || strcmp(argv[1], "chain") == 0;
+    int waits = strcmp(argv[1], "pipeline") == 0 || strcmp(argv[1], "mixing") == 0 || strcmp(argv[1], "chain") == 0
+        || strcmp(argv[1], "swapped") == 0;
     #pragma omp parallel
     #pragma omp single
     if (waits)
@@ -324,6 +360,11 @@ elseif kind == "mixing" then
     x, y = mix(x, y, 3, 2)
     out[k] = string.char(x)
     out[k + 1] = string.char(y)
+  end
+elseif kind == "swapped" then
+  for k = 1, #input - 1, 2 do
+    out[k] = string.char(input:byte(k + 1))
+    out[k + 1] = string.char(input:byte(k))
   end
 elseif kind == "chain" then
   local x = 0
@@ -424,6 +465,7 @@ lift 65536
 overlap 65536
 pipeline 65536
 mixing 65536
+swapped 65536
 chain 65536
 turns 32
 wavelet 256

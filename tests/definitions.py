@@ -4,7 +4,7 @@
 It reads the contract of the call that `main` makes, CONTRACT in CALL, follows each name that it cites through the imports of the
 files in crates/*/specs, and compares the definitions that it comes to, with the lines on which they stand, with the list in
 docs/PROMISES.md. The last line is `N passed, M failed`. With --write it puts the list and its numbers there: how many definitions in how
-many files, and how many of them in how many lines stand below ALONE, what a run alone is meant to give. With --why NAME it prints one
+many lines of how many files, and how many of them in how many lines stand below ALONE, what a run alone is meant to give. With --why NAME it prints one
 way from the contract to a definition of that name. Types of the code (`declared`) and std's words are left out."""
 import os
 import re
@@ -202,14 +202,14 @@ def size_of(modules, found):
     return f"{len(found)} in {sum(len(modules[at].definitions[name][1].splitlines()) for at, name in found)} lines"
 
 
-def page_with(page, rows, count, alone):
+def page_with(page, rows, all_of_them, alone):
     """The page with these rows as its list, and with its numbers."""
     lines = page.split("\n")
     first = next(at for at, line in enumerate(lines) if line.startswith("- `crates/"))
     behind = next(at for at in range(first, len(lines)) if not lines[at].startswith("- `crates/"))
     text = "\n".join(lines[:first] + rows + lines[behind:])
     text = re.sub(rf"below `{ALONE}`: \d+ in \d+ lines", f"below `{ALONE}`: {alone}", text)
-    return re.sub(r"\d+ in \d+ files of this repository", f"{count} in {len(rows)} files of this repository", text)
+    return re.sub(r"\d+ in \d+ lines of \d+ files of this repository", f"{all_of_them} of {len(rows)} files of this repository", text)
 
 
 def main(words):
@@ -226,7 +226,7 @@ def main(words):
     with open(f"{TOP}/{LIST}", encoding="utf-8") as file:
         page = file.read()
     alone = size_of(modules, follow(modules, [at for at in found if at[1] == ALONE]))
-    wanted = page_with(page, rows_of(modules, found), len(found), alone)
+    wanted = page_with(page, rows_of(modules, found), size_of(modules, found), alone)
     if words[:1] == ["--write"]:
         with open(f"{TOP}/{LIST}", "w", encoding="utf-8") as file:
             file.write(wanted)
