@@ -68,7 +68,7 @@ impl Inputs {
         }
     }
 
-    /// The same of the input.
+    /// Reads what a span of the input covers, if all of it is there.
     fn read_input(&mut self, input: &[u8], span: &Span) -> Result<bool, Memory>
         requires { span.now.stream ≡ 0 }
         ensures { IfOk result (λ there. there ≡ true → (streams : Streams) (cells : List (Option Elem)) → AreRead cells self.old
@@ -83,7 +83,7 @@ impl Inputs {
         Ok(true)
     }
 
-    /// The same of another stream.
+    /// Reads what a span of another stream covers, if all of it is there.
     fn read_stream(&mut self, streams: &Streams, span: &Span) -> Result<bool, Memory>
         requires other { 0 < span.now.stream }
         requires exists { span.now.stream < length streams.now.elements }
@@ -124,7 +124,7 @@ impl Inputs {
         self.grow(more)
     }
 
-    /// The same where there is too little.
+    /// Makes room for more values where there is too little.
     fn grow(&mut self, more: usize) -> Result<(), Memory>
         requires { vec_len self.old.places < self.old.count + more }
         ensures room { OnOk result (self.new.count + more ≤ vec_len self.new.places) }

@@ -59,7 +59,7 @@ impl Streams {
         Ok(())
     }
 
-    /// The same on one stream.
+    /// Puts behind the elements of one stream those that another one holds beyond them.
     fn join_on(&mut self, other: &Streams, stream: usize) -> Result<(), Memory>
         requires { stream < length self.old.elements }
         ensures { OnOk result (self.new ≡ with_joined self.old other.now stream) }

@@ -110,7 +110,7 @@ impl Streams {
         Ok(())
     }
 
-    /// The same of one stream, by its read cursor.
+    /// Gives up what lies before the read cursor of one stream.
     fn give_up_of(&mut self, alloc: Global, stream: usize, cursor: u64) -> Result<(), Memory>
         requires declared { 2 ≤ stream }
         requires exists { stream < length self.old.elements }

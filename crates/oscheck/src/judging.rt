@@ -118,7 +118,7 @@ fn tell_violations(
     }
 }
 
-/// The same by the tokens of the text.
+/// Tells all violations of a text, by its tokens.
 fn tell_listed(
     out: &mut impl io::Write,
     alloc: Global,

@@ -45,7 +45,7 @@ pub(crate) fn word_at(
     }
 }
 
-/// The same of a word that is long.
+/// The bytes of a word that is long; none where there is no such word.
 fn long_word(env: &impl Env, alloc: Global, number: usize) -> Result<Option<Vec<u8>>, Memory> {
     match ask(env, alloc, number, LONG)? {
         Asked::Word(bytes) => Ok(Some(bytes)),

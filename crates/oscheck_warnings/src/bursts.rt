@@ -109,7 +109,7 @@ fn differs_from(size: u32, burst: Amount) -> bool
     0 < size && size < 65537 && is_other(size, burst)
 }
 
-/// The same, where the size is a constant.
+/// Whether a burst is another amount than a size that a window can have, where the size is a constant.
 fn differs(size: Option<Amount>, burst: Amount) -> bool
     ensures { result ≡ differs size burst }
 {

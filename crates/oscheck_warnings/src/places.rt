@@ -29,7 +29,7 @@ impl Places {
         Ok(())
     }
 
-    /// One more, or none.
+    /// Adds a place to the set where there is more, and else leaves it.
     pub(crate) fn add_if(&mut self, more: bool, place: u32) -> Result<(), Memory>
         ensures { OnOk result ((other : ℕ) → has self.new other ≡ ((more && (place == other)) || has self.old other)) }
     {
