@@ -40,14 +40,16 @@ use task_workers::Gate;
 pub(crate) struct Standing<'c> {
     /// The control program, where it has come.
     pub(crate) control: ControlRun<'c>,
-    /// The activations that it has created, from a number on: those before it have ended, and are run no more.
+    /// The activations that it has created, from a number on: those before them have ended, and are run no more.
     pub(crate) activations: List<Activation>,
-    /// That number.
+    /// The number of the first of them.
     pub(crate) first: u32,
     /// The positions of all that it has created.
     pub layout: Layout,
     /// What is held of those that were run.
     pub held: Held,
+    /// How many activations had run when several workers last tried to share the run out.
+    pub(crate) tried: u32,
 }
 
 impl<'c> Standing<'c> {
@@ -71,6 +73,7 @@ impl<'c> Standing<'c> {
             first: 0,
             layout,
             held: Held::nothing(alloc),
+            tried: 0,
         })
     }
 
