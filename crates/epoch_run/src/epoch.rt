@@ -260,6 +260,6 @@ fn run_frames<R: Threads + Sync, B: Bodies<Scratch = Scratch>, G: Gate>(
         frames,
     };
     let run = run_plan(rt, alloc, &plan, &bodies, workers, gate, *pace)?;
-    *pace = Pace::of(&plan, steps.load(Ordering::Relaxed));
+    *pace = pace.behind(&plan, steps.load(Ordering::Relaxed));
     Ok(run)
 }

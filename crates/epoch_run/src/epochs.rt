@@ -45,6 +45,7 @@ pub fn run_epochs<R: Threads + Sync, G: Gate>(
     // the layout of all activations that `main` creates, and how it ended
     ensures layout { IfOk result (λ run. IsLayoutOf run.layout (created (parts_of code.now) input.now budgets)) }
     ensures whole { IfOk result (λ run. IsLayout run.layout) }
+    ensures streams { IfOk result (λ run. length run.layout.writers ≡ code.now.streams) }
     ensures input { IfOk result (λ run. run.layout.input_len ≡ length input.now) }
     ensures control { IfOk result (λ run. run.control ≡ (control (parts_of code.now) (length input.now) budgets.control).end) }
     // how they end, and the elements of the output
@@ -86,6 +87,7 @@ pub fn run_epochs_of<R: Threads + Sync, G: Gate>(
     // the layout of all activations that `main` creates, and how it ended
     ensures layout { IfOk result (λ run. IsLayoutOf run.layout (created (parts_of code.now) input.now budgets)) }
     ensures whole { IfOk result (λ run. IsLayout run.layout) }
+    ensures streams { IfOk result (λ run. length run.layout.writers ≡ code.now.streams) }
     ensures input { IfOk result (λ run. run.layout.input_len ≡ length input.now) }
     ensures control { IfOk result (λ run. run.control ≡ (control (parts_of code.now) (length input.now) budgets.control).end) }
     // how they end, and the elements of the output
@@ -127,6 +129,7 @@ fn run_by<R: Threads + Sync, G: Gate>(
     // the layout of all activations that `main` creates, and how it ended
     ensures layout { IfOk result (λ run. IsLayoutOf run.layout (created (parts_of code.now) input.now budgets)) }
     ensures whole { IfOk result (λ run. IsLayout run.layout) }
+    ensures streams { IfOk result (λ run. length run.layout.writers ≡ code.now.streams) }
     ensures input { IfOk result (λ run. run.layout.input_len ≡ length input.now) }
     ensures control { IfOk result (λ run. run.control ≡ (control (parts_of code.now) (length input.now) budgets.control).end) }
     // how they end, and the elements of the output

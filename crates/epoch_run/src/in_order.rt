@@ -250,7 +250,7 @@ fn run_created<G: Gate>(
         pace.most_steps(workers, run.activations.len() as u64),
         gate,
     )?;
-    run.held.pace = pace.of_more(order.steps.saturating_sub(begun), count);
+    run.held.pace = pace.behind_more(order.steps.saturating_sub(begun), count);
     Ok(count == run.activations.len())
 }
 

@@ -39,27 +39,27 @@ pub(crate) enum Pace {
 }
 
 impl Pace {
-    /// The pace of the frames of a plan whose bodies took so many steps together. Those below `COUNTED` steps aren't counted, so that all are taken
-    /// to have as many.
-    pub(crate) fn of(plan: &Plan, steps: u64) -> Pace {
+    /// The pace behind an epoch: that of the frames of its plan, whose bodies took so many steps together. Those below `COUNTED` steps aren't
+    /// counted, so that all are taken to have as many. Where it has no frames, nothing new is known.
+    pub(crate) fn behind(self, plan: &Plan, steps: u64) -> Pace {
         let frames = plan.frames.len();
         let counted = steps.max((frames as u64).saturating_mul(COUNTED));
-        Pace::by(counted, frames, cells_of(plan))
+        self.by(counted, frames, cells_of(plan))
     }
 
-    /// The pace of so many more activations like those before them, whose bodies took so many steps together.
-    pub(crate) fn of_more(self, steps: u64, count: usize) -> Pace {
+    /// The pace behind so many more activations like those before them, whose bodies took so many steps together.
+    pub(crate) fn behind_more(self, steps: u64, count: usize) -> Pace {
         let cells = match self {
             Pace::Steps { cells, .. } => cells,
             Pace::Unknown => 0,
         };
-        Pace::by(steps, count, cells)
+        self.by(steps, count, cells)
     }
 
-    /// The pace of so many bodies that took so many steps together, of which each has so many cells.
-    fn by(steps: u64, count: usize, cells: u64) -> Pace {
+    /// The pace of so many bodies that took so many steps together, of which each has so many cells. Where there are none it stays.
+    fn by(self, steps: u64, count: usize, cells: u64) -> Pace {
         if count == 0 {
-            return Pace::Unknown;
+            return self;
         }
         Pace::Steps {
             each: steps / count as u64,
@@ -119,7 +119,8 @@ impl Pace {
         activations.saturating_mul(self.worth())
     }
 
-    /// How many of the workers are to run a plan round by round; none where they are to run it over one table.
+    /// How many of the workers are to run a plan round by round; none where they are to run it over one table. More than one do so where all
+    /// frames are open from the start, and so are one round: each round starts its threads.
     pub(crate) fn rounds_for(self, plan: &Plan, workers: u32) -> Option<u32>
         requires { 1 ≤ workers }
         ensures some { IfSome result (λ some. 1 ≤ some) }
@@ -127,7 +128,7 @@ impl Pace {
     {
         match self {
             Pace::Steps { each, .. } if each < worth_a_table(cells_of(plan)) => {
-                Some(threads_for(open_at_first(plan).saturating_mul(each), workers))
+                Some(threads_for(steps_at_once(plan, each), workers))
             }
             _ => None,
         }
@@ -166,13 +167,20 @@ fn threads_for(steps: u64, workers: u32) -> u32
     (steps / THREAD_STEPS).clamp(1, u64::from(workers)) as u32
 }
 
-/// How many frames wait for nothing.
-fn open_at_first(plan: &Plan) -> u64 {
-    let mut open: u64 = 0;
+/// How many steps the bodies of a plan take that are one round, where each takes so many; 0 where some frames wait for others.
+fn steps_at_once(plan: &Plan, each: u64) -> u64 {
+    if !are_open(plan) {
+        return 0;
+    }
+    (plan.frames.len() as u64).saturating_mul(each)
+}
+
+/// Whether no frame waits for another one.
+fn are_open(plan: &Plan) -> bool {
     for frame in plan.frames.as_slice() {
-        if frame.wait == 0 {
-            open = open.saturating_add(1);
+        if frame.wait > 0 {
+            return false;
         }
     }
-    open
+    true
 }

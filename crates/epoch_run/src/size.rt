@@ -24,7 +24,8 @@ const FIRST: u32 = 256;
 pub struct EpochSize {
     /// How many new activations it has at most: one at least.
     pub activations: u32,
-    /// With so many elements in their windows it takes no more of them. An element counts once for each window that has it.
+    /// With so many elements in their windows it takes no more of them, or with half as many as are kept where these are more. An element
+    /// counts once for each window that has it.
     pub elements: u64,
     /// The elements are counted each time that the control program has created so many activations; 0 stands for 1.
     pub stretch: u32,
@@ -59,21 +60,25 @@ impl EpochSize {
         }
         EpochSize {
             activations: self.activations.min(FIRST),
+            elements: self.elements.min(ELEMENTS_ALONE),
             ..self
         }
     }
 
-    /// The size of the next epoch while this many activations wait: it is multiplied by how many full epochs they would make, up to `growth`.
-    pub(crate) fn with_waiting(self, waiting: usize) -> EpochSize
+    /// The size of the next epoch, where activations wait and elements are kept: as many times as many new activations as full epochs these would
+    /// make, up to `growth`, and at least half as many elements as are kept. For all that wait or are kept are gone over in each epoch.
+    pub(crate) fn with_waiting(self, waiting: usize, kept: usize) -> EpochSize
         requires { 1 ≤ self.activations }
         ensures { 1 ≤ result.activations }
     {
+        let kept = kept as u64 / 2;
         let times = (waiting as u64 / u64::from(self.activations))
+            .max(kept / self.elements.max(1))
             .min(u64::from(self.growth))
             .max(1) as u32;
         EpochSize {
             activations: self.activations.saturating_mul(times).max(self.activations),
-            elements: self.elements.saturating_mul(u64::from(times)),
+            elements: self.elements.saturating_mul(u64::from(times)).max(kept),
             ..self
         }
     }

@@ -77,7 +77,7 @@ impl<'c> Standing<'c> {
         })
     }
 
-    /// The size of the next epoch, by that of an epoch for which few activations wait: the first one is small by several workers.
+    /// The size of the next epoch, by that of an epoch for which few activations wait and little is kept: the first one is small by several workers.
     pub(crate) fn next_size(&self, size: EpochSize, workers: u32) -> EpochSize
         requires { 1 ≤ size.activations }
         ensures { 1 ≤ result.activations }
@@ -85,7 +85,7 @@ impl<'c> Standing<'c> {
         if self.layout.starts.len() <= 1 {
             size.first(workers)
         } else {
-            size.with_waiting(self.held.without_end.len())
+            size.with_waiting(self.held.without_end.len(), self.held.kept.len())
         }
     }
 
@@ -397,6 +397,7 @@ impl<'c> Standing<'c> {
         requires stands { StandsAt code.now input.now budgets self.old }
         ensures layout { OnOk result (IsLayoutOf self.new.layout (given_by self.old.control)) }
         ensures whole { OnOk result (IsLayout self.new.layout) }
+        ensures streams { OnOk result (length self.new.layout.writers ≡ code.now.streams) }
         ensures input { OnOk result (self.new.layout.input_len ≡ length input.now) }
         ensures ends { OnOk result (self.new.held.ends ≡ code_ends (parts_of code.now) (given_by self.old.control) input.now budgets.task) }
     {
@@ -439,6 +440,7 @@ impl<'c> Standing<'c> {
         requires all { self.old.first ≡ 0 }
         ensures layout { OnOk result (IsLayoutOf self.new.layout (given_by self.old.control)) }
         ensures whole { OnOk result (IsLayout self.new.layout) }
+        ensures streams { OnOk result (length self.new.layout.writers ≡ code.now.streams) }
         ensures input { OnOk result (self.new.layout.input_len ≡ length input.now) }
         ensures ends { OnOk result (self.new.held.ends ≡ code_ends (parts_of code.now) (given_by self.old.control) input.now budgets.task) }
     {
@@ -467,6 +469,7 @@ impl<'c> Standing<'c> {
         requires stands { StandsAt code.now input.now budgets self.old }
         ensures layout { OnOk result (IsLayoutOf self.new.layout (given_by self.old.control)) }
         ensures whole { OnOk result (IsLayout self.new.layout) }
+        ensures streams { OnOk result (length self.new.layout.writers ≡ code.now.streams) }
         ensures input { OnOk result (self.new.layout.input_len ≡ length input.now) }
         ensures ends { OnOk result (self.new.held.ends ≡ code_ends (parts_of code.now) (given_by self.old.control) input.now budgets.task) }
     {
