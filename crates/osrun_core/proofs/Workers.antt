@@ -1,5 +1,5 @@
 -- The answer of a call doesn't depend on the number of workers.
-use Rattle.std.proofs.Common.{◌≡◌, ◌≢◌, ◌∙◌, ◌⊎◌, inl, inr, subst, ℕ, ◌+◌, ◌<◌, ◌≤◌, List, [], ◌∷◌, Option, Some, None, All, IfSome, IsSomeAnd, refl, sym, ap, arith, append-nil, length, slice_get, take}
+use Rattle.std.proofs.Common.{◌≡◌, ◌≢◌, ◌∙◌, inl, inr, subst, ℕ, ◌<◌, ◌≤◌, List, [], ◌∷◌, Option, Some, None, All, IfSome, IsSomeAnd, refl, sym, ap, arith, append-nil, length, slice_get, take}
 use Rattle.std.specs.Prelude.{IsSome}
 use Rattle.std.specs.Io.KnownBytes.{append_known}
 use Rattle.std.proofs.lemmas.Bool.{cases_lt, cases_order, false≢true}
@@ -15,7 +15,7 @@ use Rattle.osrun_core_answer.specs.Answers.{AnswersRequest, IsMade, IsRefused}
 use Rattle.osrun_core_answer.specs.JobOutcome.{JobOutcome}
 use Rattle.osrun_core_answer.specs.Laws.{IsTold, SameButForWorkers}
 use Rattle.osrun_core_jobs.specs.Files.{JobFile, files_of, limit_of}
-use Rattle.osrun_core_jobs.specs.Jobs.{Compile, Exec, Explain, Gen, Replay, Request, Run as RunRequest, Trace, replay_in}
+use Rattle.osrun_core_jobs.specs.Jobs.{Exec, Explain, Gen, Request, Run as RunRequest, replay_in}
 use Rattle.osrun_core_jobs.specs.Reading.{IsCauseOf, IsFailed, IsReadable, WereRead}
 use Rattle.osrun_core_jobs.specs.Refusal.{refusal_line, refusal_status}
 use Rattle.osrun_core_jobs.specs.Status.{code_of}
