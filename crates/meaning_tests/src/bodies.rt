@@ -2,8 +2,8 @@
 
 /// The lines before a body.
 pub const BEFORE: &str = "int one(void) { return 1; } int f(int a) { return a + 1; } int g(void) { }
-int main(void) {
-int s __attribute__((stream)); int y;
+int pair(int a, int b) { return 10 * a + b; } int twice(int a) { return f(f(a)); }
+int main(void) { int s __attribute__((stream)); int y;
 #pragma omp task output(s << y)
 ";
 
@@ -270,4 +270,154 @@ y = 0 && f(1);
 { int i; for (i = 0; i < 3; i++) { int x = x + 5; y += x; x = 9; } }
 
 0 over budget
-y = g();";
+y = g();
+
+1 Done 7
+{ int a[3]; a[f(1)] = 7; y = a[2]; }
+
+0 over budget
+{ int a[3]; a[f(1)] = 7; y = a[2]; }
+
+1 Done 5
+{ int a[3]; a[1] = 5; y = a[f(0)]; }
+
+0 over budget
+{ int a[3]; a[1] = 5; y = a[f(0)]; }
+
+2 Done 3
+{ int a[3]; a[1] = 2; a[f(0)] += f(0); y = a[1]; }
+
+1 over budget
+{ int a[3]; a[1] = 2; a[f(0)] += f(0); y = a[1]; }
+
+1 trapped 4 line 5
+{ int a[2]; a[f(1)] = f(1); }
+
+0 over budget
+{ int a[2]; a[f(1)] = f(1); }
+
+1 Done 2
+{ int x = f(1); y = x; }
+
+0 over budget
+{ int x = f(1); y = x; }
+
+1 Done 5
+{ y = 3; y += f(1); }
+
+0 over budget
+{ y = 3; y += f(1); }
+
+2 Done 13
+y = pair(1, f(2));
+
+1 over budget
+y = pair(1, f(2));
+
+3 Done 23
+y = pair(f(1), f(2));
+
+2 over budget
+y = pair(f(1), f(2));
+
+1 Done 2
+y = f(1) ? 2 : 3;
+
+0 over budget
+y = f(1) ? 2 : 3;
+
+1 Done 3
+y = f(-1) ? 2 : 3;
+
+0 over budget
+y = f(-1) ? 2 : 3;
+
+2 Done 4
+y = f(-1) ? one() : f(3);
+
+1 over budget
+y = f(-1) ? one() : f(3);
+
+1 Done 1
+y = f(1) && 1;
+
+0 over budget
+y = f(1) && 1;
+
+1 Done 1
+y = 1 && f(1);
+
+0 over budget
+y = 1 && f(1);
+
+2 Done 1
+y = f(0) && f(1);
+
+1 over budget
+y = f(0) && f(1);
+
+1 Done 0
+y = f(-1) && f(1);
+
+0 over budget
+y = f(-1) && f(1);
+
+1 Done 1
+y = f(0) || 0;
+
+0 over budget
+y = f(0) || 0;
+
+1 Done 1
+y = 0 || f(0);
+
+0 over budget
+y = 0 || f(0);
+
+2 Done 1
+y = f(-1) || f(0);
+
+1 over budget
+y = f(-1) || f(0);
+
+1 Done 1
+y = f(0) || f(1);
+
+0 over budget
+y = f(0) || f(1);
+
+3 Done 3
+y = twice(1);
+
+2 over budget
+y = twice(1);
+
+1 Done 4
+if (f(0)) y = 4;
+
+0 over budget
+if (f(0)) y = 4;
+
+6 Done -1
+{ int i = -3; while (f(i)) i++; y = i; }
+
+5 over budget
+{ int i = -3; while (f(i)) i++; y = i; }
+
+5 Done 6
+{ int i; for (i = 0; i < 2; i = f(i)) y += 3; }
+
+4 over budget
+{ int i; for (i = 0; i < 2; i = f(i)) y += 3; }
+
+2 Done -6
+y = -f(1) * f(2);
+
+1 over budget
+y = -f(1) * f(2);
+
+1 trapped 2 line 5
+y = f(1) / 0;
+
+0 over budget
+y = f(1) / 0;";

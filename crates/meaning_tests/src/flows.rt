@@ -211,4 +211,104 @@ run 0 2 = over budget
 int main(void) { }
 ----
 run 0 0 = Done
+====
+int f(int a) { return a + 1; }
+int main(void) {
+    int w[f(1)], y;
+    #pragma omp task input(osin >> w[2]) output(osout << y)
+    y = w[1];
+}
+----
+run 2 1 = 0 [] r 0 2 2 s 0, w 1 1; Done
+run 2 0 = over budget
+body 0 0 4 9 = Done 9
+====
+int f(int a) { return a + 1; }
+int main(void) {
+    int w[2], y;
+    #pragma omp task input(osin >> w[f(0)]) output(osout << y)
+    y = w[1];
+    #pragma omp task output(osout << w[f(1)])
+    ;
+}
+----
+run 2 2 = 0 [] r 0 2 1 s 0, w 1 1; 1 [] w 1 2; Done
+run 2 1 = 0 [] r 0 2 1 s 0, w 1 1; over budget
+run 2 0 = over budget
+body 1 0 = Done 0 0
+====
+int f(int a) { return a + 1; }
+int main(void) {
+    int s[2] __attribute__((stream));
+    int x;
+    #pragma omp task output(s[f(0)] << x)
+    x = 7;
+    #pragma omp task input(s[f(-1)] >> x)
+    ;
+}
+----
+run 0 2 = 0 [] w 3 1; 1 [] r 2 1 1 s 0; Done
+run 0 1 = 0 [] w 3 1; over budget
+run 0 0 = over budget
+body 0 0 = Done 7
+====
+int f(int a) { return a + 1; }
+int main(void) {
+    int x;
+    #pragma omp tick(osin >> f(1))
+    #pragma omp task input(osin >> x)
+    ;
+}
+----
+run 3 2 = 0 [] r 0 1 1 s 2; Done
+run 3 1 = over budget
+run 3 0 = over budget
+====
+int f(int a) { return a + 1; }
+int main(void) {
+    #pragma omp tick(osin >> f(65536))
+}
+----
+run 0 1 = trapped 7 line 3
+run 0 0 = over budget
+====
+int f(int a) { return a + 1; }
+int g(int a, int b) { return 10 * a + b; }
+int main(void) {
+    int x = f(1), y;
+    x += f(1);
+    #pragma omp task output(osout << y)
+    y = x;
+    x = g(1, f(2));
+    #pragma omp task output(osout << y)
+    y = x;
+    return f(0);
+}
+----
+run 0 5 = 0 [4] w 1 1; 1 [13] w 1 1; Done
+run 0 4 = 0 [4] w 1 1; 1 [13] w 1 1; over budget
+run 0 3 = 0 [4] w 1 1; over budget
+run 0 2 = 0 [4] w 1 1; over budget
+run 0 1 = over budget
+run 0 0 = over budget
+body 1 0 = Done 13
+====
+int f(int a) { return a + 1; }
+int main(void) {
+    int x, y;
+    x = f(1) ? 2 : 3;
+    #pragma omp task output(osout << y)
+    y = x;
+    x = (f(0) && f(1)) + 2 * (f(-1) || f(0));
+    #pragma omp task output(osout << y)
+    y = x;
+}
+----
+run 0 5 = 0 [2] w 1 1; 1 [3] w 1 1; Done
+run 0 4 = 0 [2] w 1 1; over budget
+run 0 3 = 0 [2] w 1 1; over budget
+run 0 2 = 0 [2] w 1 1; over budget
+run 0 1 = 0 [2] w 1 1; over budget
+run 0 0 = over budget
+body 1 0 = Done 3
 ";

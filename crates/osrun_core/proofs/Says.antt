@@ -183,7 +183,7 @@ abbrev input_file : Job → JobFile
 input_file job = record { subject = subjects.Input; name = job.input }
 
 module _ {F : Type 0} (view : FilesView F) where
-  kept : (old new : F) (files : List JobFile) (contents : List (List ℕ)) → WereRead IsUsable view old new files contents
+  pub kept : (old new : F) (files : List JobFile) (contents : List (List ℕ)) → WereRead IsUsable view old new files contents
       → (view.holds new ≡ view.holds old) × (view.may new ≡ view.may old) × (view.faults new ≡ view.faults old)
   kept old new [] [] read = (ap view.holds read, ap view.may read, ap view.faults read)
   kept old new [] (bytes ∷ contents) read = absurd read
@@ -513,7 +513,7 @@ failed_from view old between new file (refusals.ReadFault subject) holds faults 
 failed_from view old between new file refusals.Memory holds faults failed = tt
 
 -- the same place has the same file
-same_file : (files : List JobFile) (n m : ℕ) (file other : JobFile) → slice_get files n ≡ Some file → slice_get files m ≡ Some other → n ≡ m → file ≡ other
+pub same_file : (files : List JobFile) (n m : ℕ) (file other : JobFile) → slice_get files n ≡ Some file → slice_get files m ≡ Some other → n ≡ m → file ≡ other
 same_file files n m file other at_n at_m same = same_Some file other (sym at_n ∙ ap (slice_get files) same ∙ at_m)
 
 -- ---- the record
@@ -521,7 +521,7 @@ same_file files n m file other at_n at_m same = same_Some file other (sym at_n �
 module _ {F O E : Type 0} (of_files : FilesView F) (fo fn : F) (of_out : SinkView O) (oo on : O) (of_report : SinkView E) (ro rn : E)
     (asked : Option Request) (status : ℕ) (answer : AnswersRequest of_files fo fn of_out oo on of_report ro rn asked status) where
   -- the six ways in which a call ends
-  cases : {C : Type 0} → (IsGiven of_files fo fn of_out oo on of_report ro rn asked status → status < 2 → C)
+  pub cases : {C : Type 0} → (IsGiven of_files fo fn of_out oo on of_report ro rn asked status → status < 2 → C)
       → (IsUnasked fo fn oo on of_report ro rn asked → status ≡ 2 → C)
       → ((s : Status) → IsRefused of_files fo fn oo on of_report ro rn asked s → status ≡ code_of s → 3 ≤ status → status ≤ 5 → C)
       → (IsCut of_files fo fn of_out oo on of_report ro rn asked → status ≡ 6 → C)

@@ -7,11 +7,14 @@ ghost use Rattle.collector.specs.Report.{report as report_of};
 ghost use Rattle.collector.specs.Status.{status as status_of};
 ghost use Rattle.collector.specs.Written.{written};
 ghost use Rattle.osrun_core.specs.Codes.{IsObjectOfJob, IsRunOfObject};
+ghost use Rattle.osrun_core.specs.Given.{Gives};
 ghost use Rattle.osrun_core.specs.Lines.{IsLineOfJob};
 ghost use Rattle.osrun_core.specs.Read.{IsRead};
 ghost use Rattle.osrun_core.specs.Traces.{IsLineOfReplay, IsRunByTrace, IsTraceOfJob};
 ghost use Rattle.osrun_core_answer.specs.Answers.{AnswersRequest};
 ghost use Rattle.osrun_core_answer.specs.Gen.{IsRunOfGen, gen_lines};
+ghost use Rattle.osrun_core_answer.specs.JobOutcome.{JobOutcome};
+ghost use Rattle.osrun_core_answer.specs.Laws.{IsTold, SameButForWorkers};
 ghost use Rattle.osrun_core_jobs.specs.Files.{JobFile, files_of, limit_of};
 ghost use Rattle.osrun_core_jobs.specs.Jobs.{IsRequestWithin, Run as RunRequest, replay_in};
 ghost use Rattle.osrun_core_jobs.specs.Reading.{IsCauseOf, IsFailed, IsReadable, IsRejected, ReadsInOrder};
@@ -25,7 +28,9 @@ ghost use Rattle.osrun_core_run.specs.Refusal.{IsUnusable, IsUsable};
 ghost use Rattle.osrun_core_run.specs.Run.{ProgramRun, IsRunOfJob};
 ghost use Rattle.osrun_core_words.specs.Command.{command, named_compile, named_exec, named_explain, named_gen, named_replay, named_run, named_trace, texts};
 
+use front_end::one_answer;
 use os_io::{Files, Sink};
+use osrun_core_answer::laws::workers_change_nothing;
 use osrun_core_run::laws::never_usable_and_refused;
 
 /// What the record of an answer comes to, status by status: of the files and the two sinks before and after a call of the
@@ -236,4 +241,43 @@ pub fn answers_say<F: Files, O: Sink, E: Sink>(
     ensures may { F.may files_after.now ≡ F.may files.now }
 {
     never_usable_and_refused();
+}
+
+/// The answer of a call doesn't depend on the number of workers. Two calls whose words name requests that differ in that number alone, on
+/// files that tell the same, give one outcome: output, report and status, also where a file is refused. It is whole where no read
+/// failed, the sinks took all of it, and memory was there. `trace` is left out: its output tells which worker ran what.
+pub fn workers_change_no_answer<F: Files, O: Sink, E: Sink>(
+    words: &[String],
+    files: &F,
+    files_after: &F,
+    out: &O,
+    out_after: &O,
+    report: &E,
+    report_after: &E,
+    status: u8,
+    other_words: &[String],
+    others: &F,
+    others_after: &F,
+    other_out: &O,
+    other_out_after: &O,
+    other_report: &E,
+    other_report_after: &E,
+    other_status: u8,
+)
+    requires one { AnswersRequest F.Files files.now files_after.now O.Sink out.now out_after.now E.Sink report.now report_after.now
+        (command (texts words.now)) status }
+    requires other { AnswersRequest F.Files others.now others_after.now O.Sink other_out.now other_out_after.now
+        E.Sink other_report.now other_report_after.now (command (texts other_words.now)) other_status }
+    requires same_words { IsSomeAnd (command (texts words.now)) (λ request.
+        IsSomeAnd (command (texts other_words.now)) (SameButForWorkers request)) }
+    requires same_files { F.holds others.now ≡ F.holds files.now }
+    requires told { IfSome (command (texts words.now)) (λ request. All (IsTold (F.holds files.now)) (files_of request)) }
+    ensures status { status < 5 → other_status < 5 → status ≡ other_status }
+    ensures outcome { (outcome : JobOutcome)
+        × Gives O.Sink out.now out_after.now E.Sink report.now report_after.now status outcome
+        × Gives O.Sink other_out.now other_out_after.now E.Sink other_report.now other_report_after.now other_status outcome }
+{
+    workers_change_nothing(files, files_after, others, others_after);
+    never_usable_and_refused();
+    one_answer();
 }
