@@ -1,5 +1,6 @@
 //! Where the shares of a run begin.
 
+use crate::pace::RUNNING;
 use flow_core_laws::ACTIVATIONS_LIMIT;
 use stream_match::Layout;
 
@@ -10,15 +11,12 @@ const MOST_SHARES: u32 = 8;
 const OVERLAP: u32 = 64;
 
 /// What it takes to create an activation and to lay it out, in steps of the machine of a body.
-const CREATING: u64 = 40;
+const CREATING: u64 = 110;
 
-/// What it takes to create one and to pass it.
-const PASSING: u64 = 32;
+/// What it takes to create one and to pass it, in the same steps.
+const PASSING: u64 = 56;
 
-/// What it takes to create one and to run it, besides its own steps.
-const RUNNING: u64 = 170;
-
-/// One, in the fractions by which shares are told.
+/// One, in the fractions in which weights are counted.
 const ONE: u64 = 1_024;
 
 /// Where the shares of a run begin, such that all end at about the same time: the worker of the first one has the control program create all
@@ -29,9 +27,9 @@ pub(crate) struct Borders {
     first: u32,
     /// About how many come from it on.
     all: u64,
-    /// What passing an activation takes of running it.
+    /// What passing an activation takes of the time of running it, in fractions.
     passing: u64,
-    /// As how many activations that run creating all of them counts.
+    /// How many activations run in the time that it takes to create all of them.
     creating: u64,
     count: u32,
 }
@@ -60,34 +58,51 @@ impl Borders {
 
     /// The number of the first activation of a share.
     pub(crate) fn begin(self, number: u32) -> u32 {
-        let (sum, rest) = self.weights(self.count);
-        let longest = self
-            .all
-            .saturating_mul(ONE)
-            .saturating_add(self.creating.saturating_mul(rest))
-            / sum.max(1);
-        let (sum, rest) = self.weights(number);
-        let before = longest
-            .saturating_mul(sum)
-            .saturating_sub(self.creating.saturating_mul(rest))
-            / ONE;
-        let begin = u64::from(self.first).saturating_add(before);
+        let begin = u64::from(self.first).saturating_add(self.before(number));
         begin.min(u64::from(ACTIVATIONS_LIMIT)) as u32
     }
 
-    /// How many activations so many shares have, in fractions: so many times what a worker could run in all its time, less so many times what creating all
-    /// counts as. A worker passes the shares before its own, so that each share has less of its time.
-    fn weights(self, count: u32) -> (u64, u64) {
-        let mut sum: u64 = 0;
-        let mut rest: u64 = 0;
-        for number in 0..count {
-            rest = if number == 0 { ONE } else { self.less(rest) };
-            sum = self.less(sum).saturating_add(ONE);
+    /// How many activations the shares before one have. Where creating all of them takes the first worker as long as the others run, its own
+    /// share is empty, and the others have all.
+    fn before(self, number: u32) -> u64 {
+        let longest = self.longest(self.count, self.creating);
+        if longest > self.creating {
+            return self.in_first(number, longest, self.creating);
         }
-        (sum, rest)
+        let longest = self.longest(self.last(), 0);
+        self.in_first(number.saturating_sub(1), longest, 0)
     }
 
-    /// So much less what passing takes of it.
+    /// How long it takes so many workers to run all, where the first of them is busy for a while: in activations that one worker runs, as the while is.
+    fn longest(self, count: u32, busy: u64) -> u64 {
+        let (time, less) = self.weights(count);
+        self.all
+            .saturating_mul(ONE)
+            .saturating_add(busy.saturating_mul(less))
+            / time.max(1)
+    }
+
+    /// How many activations so many workers run in a time, the first ones, where the first of them is busy for a while.
+    fn in_first(self, count: u32, time: u64, busy: u64) -> u64 {
+        let (times, less) = self.weights(count);
+        time.saturating_mul(times)
+            .saturating_sub(busy.saturating_mul(less))
+            / ONE
+    }
+
+    /// By how much what so many workers run grows with the time that they have, and by how much it shrinks with the while that the first of them is
+    /// busy, in fractions. Each of them passes the activations of those before it, and has less time for its own.
+    fn weights(self, count: u32) -> (u64, u64) {
+        let mut grows: u64 = 0;
+        let mut shrinks: u64 = 0;
+        for number in 0..count {
+            grows = self.less(grows).saturating_add(ONE);
+            shrinks = if number == 0 { ONE } else { self.less(shrinks) };
+        }
+        (grows, shrinks)
+    }
+
+    /// A weight less what it takes to pass as many activations.
     fn less(self, weight: u64) -> u64 {
         weight.saturating_mul(ONE.saturating_sub(self.passing)) / ONE
     }

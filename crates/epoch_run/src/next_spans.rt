@@ -25,7 +25,7 @@ pub(crate) struct NextSpans {
 }
 
 impl NextSpans {
-    /// Those of no activation, behind a layout, with memory for so many activations of two claims each.
+    /// The positions of no activations yet, behind a layout, with memory for this many activations of two claims each.
     pub(crate) fn behind(
         alloc: Global,
         layout: &Layout,

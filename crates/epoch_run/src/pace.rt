@@ -9,14 +9,21 @@ const TABLE_STEPS: u64 = 1_000;
 /// What it costs a cell.
 const CELL_STEPS: u64 = 80;
 
-/// How many steps an average body has to take for each worker but one, of four at most, for a run in control order to be shared out: each of them
-/// creates the activations before its own as well.
-const SHARE_STEPS: u64 = 192;
+/// What it takes to create an activation and to run it in control order, besides its own steps.
+pub(crate) const RUNNING: u64 = 170;
 
-/// How many steps it has to take for each of its cells: what a share writes is put behind what the others did, which takes about as long again.
-const SHARED_CELL_STEPS: u64 = 10;
+/// How many steps an average body has to take for three workers or more to gain by sharing a run in control order out: one of them creates all
+/// activations, and each other one creates those before its own as well.
+const SHARE_STEPS: u64 = 20;
 
-/// Bodies that take as many steps gain by several workers, whatever a table costs them.
+/// How many it has to take for two workers.
+const SHARE_STEPS_OF_TWO: u64 = 90;
+
+/// How many steps it has to take for each of its cells, with those that running it takes besides: what a share writes is put behind what the others
+/// did, which takes about as long again.
+const SHARED_CELL_STEPS: u64 = 11;
+
+/// The least number of steps for which it pays to run a plan by several workers, whatever a table costs.
 const LONG_STEPS: u64 = 4_096;
 
 /// How many steps are worth a thread.
@@ -60,7 +67,7 @@ impl Pace {
         }
     }
 
-    /// From how many steps on bodies gain by several workers that run a plan.
+    /// The least number of steps for which it pays to run a plan by several workers.
     fn worth(self) -> u64 {
         match self {
             Pace::Steps { cells, .. } => worth_a_table(cells).min(LONG_STEPS),
@@ -88,9 +95,8 @@ impl Pace {
     pub(crate) fn is_worth_shares(self, workers: u32) -> bool {
         match self {
             Pace::Steps { each, cells } => {
-                let others = workers.min(4).saturating_sub(1);
-                each.saturating_mul(u64::from(others)) >= SHARE_STEPS
-                    && each >= cells.saturating_mul(SHARED_CELL_STEPS)
+                each >= worth_shares(workers)
+                    && each.saturating_add(RUNNING) >= cells.saturating_mul(SHARED_CELL_STEPS)
             }
             Pace::Unknown => false,
         }
@@ -128,9 +134,18 @@ impl Pace {
     }
 }
 
-/// From how many steps on an average body gains by a table, where it has so many cells.
+/// The least number of steps of an average body for which a table pays, by how many cells it has.
 fn worth_a_table(cells: u64) -> u64 {
     cells.saturating_mul(CELL_STEPS).saturating_add(TABLE_STEPS)
+}
+
+/// The least number of steps of an average body for which it pays so many workers to share a run out: to one worker it never does.
+fn worth_shares(workers: u32) -> u64 {
+    match workers {
+        0 | 1 => u64::MAX,
+        2 => SHARE_STEPS_OF_TWO,
+        _ => SHARE_STEPS,
+    }
 }
 
 /// How many cells a plan has for each frame, on the average.
@@ -142,7 +157,7 @@ fn cells_of(plan: &Plan) -> u64 {
     plan.filled.len() as u64 / frames
 }
 
-/// How many of the workers so many steps are worth: one at least.
+/// How many workers it pays to use for this many steps: at least one.
 fn threads_for(steps: u64, workers: u32) -> u32
     requires { 1 ≤ workers }
     ensures some { 1 ≤ result }

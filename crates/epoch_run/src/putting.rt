@@ -67,8 +67,7 @@ fn grow<T: Drop>(list: &mut List<Option<T>>, count: usize) -> Result<(), Memory>
     Ok(())
 }
 
-/// How many items a list that grows to so many is to have room for: at least a million, and else twice as many at most, and just so many
-/// where that is a power of two.
+/// How much room to reserve for a list that grows to this many items: the next power of two, and at least a million.
 fn room_for(count: usize) -> usize {
     if count > MOST_ROOM {
         return count;

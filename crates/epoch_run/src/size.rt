@@ -63,7 +63,7 @@ impl EpochSize {
         }
     }
 
-    /// The size of the next epoch, where so many activations wait: of so many times as many new ones, as far as it may grow.
+    /// The size of the next epoch while this many activations wait: it is multiplied by how many full epochs they would make, up to `growth`.
     pub(crate) fn with_waiting(self, waiting: usize) -> EpochSize
         requires { 1 ≤ self.activations }
         ensures { 1 ≤ result.activations }

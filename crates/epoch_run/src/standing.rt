@@ -40,9 +40,9 @@ use task_workers::Gate;
 pub(crate) struct Standing<'c> {
     /// The control program, where it has come.
     pub(crate) control: ControlRun<'c>,
-    /// The activations that it has created, from a number on: those before it have ended, and are run no more.
+    /// The activations that it has created, from a number on: those before them have ended, and are run no more.
     pub(crate) activations: List<Activation>,
-    /// That number.
+    /// The number of the first of them.
     pub(crate) first: u32,
     /// The positions of all that it has created.
     pub layout: Layout,

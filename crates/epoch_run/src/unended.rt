@@ -27,7 +27,7 @@ pub(crate) fn with_new(
     Ok(listed)
 }
 
-/// Those of some activations that have no end. They are all of them, where none ran.
+/// The activations among these that have no end: all of them where none ran.
 pub(crate) fn still_open(
     alloc: Global,
     activations: List<u32>,
