@@ -38,7 +38,7 @@ use Rattle.epoch_run.specs.declared.result.Budgets.{Budgets}
 use Rattle.epoch_run.specs.declared.standing.Standing.{Standing}
 
 -- no activations are lawful
-none_lawful : (n : ℕ) → AreLawful n []
+pub none_lawful : (n : ℕ) → AreLawful n []
 none_lawful n = record { activations_are_few = lit≤ tt; claims_are_lawful = All-nil _; positions_are_few = lit≤ tt; cursors_are_small = lit< tt }
 
 module _ (code : Code) (input : List ℕ) (budgets : Budgets) where
@@ -46,7 +46,7 @@ module _ (code : Code) (input : List ℕ) (budgets : Budgets) where
   pub begins : HeldAtFirst → (layout : Layout) (held : Held) → 2 ≤ code.streams → IsLayoutOf layout [] → length layout.writers ≡ code.streams → layout.input_len ≡ length input
       → held.ends.ends ≡ [] → held.ends.output ≡ [] → held.without_end ≡ [] → held.kept.items ≡ [] → (run : RunSoFar) → run ≡ not_begun (parts_of code) (length input) budgets.control
       → (activations : List Activation) → activations ≡ []
-      → StandsAt code input budgets (record { control = run; activations = activations; first = 0; layout = layout; held = held })
+      → StandsAt code input budgets (record { control = run; activations = activations; first = 0; layout = layout; held = held; tried = 0 })
   begins first layout held two laid streams over ends output unended kept run is activations none = record {
     code_is = ap (λ (r : RunSoFar). r.code) is;
     input_is = ap (λ (r : RunSoFar). r.input_len) is;
@@ -181,7 +181,7 @@ module _ (code : Code) (input : List ℕ) (budgets : Budgets) where
       -- the run after the epoch
       pub stands_next : (ran : Standing) → HasRun code input budgets all ran → (activations : List Activation) (layout : Layout) → activations ≡ ran.activations ++ next
           → IsLayoutOf layout (all ++ next) → length layout.writers ≡ length run.layout.writers → layout.input_len ≡ run.layout.input_len
-          → StandsAt code input budgets (record { control = after; activations = activations; first = ran.first; layout = layout; held = ran.held })
+          → StandsAt code input budgets (record ran { control = after; activations = activations; layout = layout })
       stands_next ran is activations layout are laid streams over = record {
         code_is = after_code;
         input_is = ap (λ (r : RunSoFar). r.input_len) made.is_run ∙ stands.input_is;

@@ -1,9 +1,9 @@
 -- Runs that are shared out: from a run in control order to its shares, and back.
 use Rattle.std.proofs.Common.{◌≡◌, ℕ, ◌+◌, ◌-◌, ◌<◌, ◌≤◌, List, [], ◌∷◌, ◌++◌, true, drop, length, take, refl, sym, ap, ◌∙◌, subst, arith}
-use Rattle.std.specs.Prelude.{All, Bool, cond, false, nat_lt, ◌==◌}
-use Rattle.std.proofs.lemmas.Bool.{eqb-true, lt-ltb}
-use Rattle.std.proofs.lemmas.List.{drop_all, length-drop, length-take, length-take-le, take-take, take_all}
-use Rattle.control_run.specs.Stretches.{RunSoFar, advanced, given_by, not_begun, remaining, whole}
+use Rattle.std.specs.Prelude.{All}
+use Rattle.std.proofs.lemmas.List.{drop_all, length-append, length-take, length-take-le, take-append-drop, take-take, take_all}
+use Rattle.std.proofs.lemmas.List.Elements.{All-nil}
+use Rattle.control_run.specs.Stretches.{RunSoFar, given_by, not_begun, remaining, whole}
 use Rattle.epoch_run_in_order.specs.Standing.{IsReady, StandsApart, StandsBehind}
 use Rattle.epoch_run_in_order.specs.declared.apart.Apart.{Apart}
 use Rattle.epoch_run_in_order.specs.declared.in_order.InOrder.{InOrder}
@@ -18,10 +18,11 @@ use Rattle.os_code.specs.Tasks.{Fits}
 use Rattle.stream_match_layouts.specs.Lawful.{AreLawful}
 use Rattle.stream_match_layouts.specs.Layout.{IsLayoutOf}
 use Rattle.stream_match_layouts.specs.declared.layout.Layout.{Layout}
+use Rattle.epoch_run.proofs.Going.{none_lawful}
 use Rattle.epoch_run.proofs.InOrder.{are_first, next_laid_out, whole_is}
 use Rattle.epoch_run.specs.InOrder.{AreLaidOut, GoesInOrder, HaveRunInOrder}
 use Rattle.epoch_run.specs.Run.{created}
-use Rattle.epoch_run.specs.Sharing.{AreSharedOut, FirstOnesRan, passed}
+use Rattle.epoch_run.specs.Sharing.{AreSharedOut, FirstOnesRan}
 use Rattle.epoch_run.specs.Standing.{HasCreated}
 use Rattle.epoch_run.specs.declared.result.Budgets.{Budgets}
 use Rattle.epoch_run.specs.declared.standing.Standing.{Standing}
@@ -81,21 +82,6 @@ module _ (code : Code) (input : List ℕ) (budgets : Budgets) where
       before : List Activation
       before = take share.count all
 
-  -- a run of the control program that has given the same
-  pub laid_anew : (so_far after : RunSoFar) (layout : Layout) → AreLaidOut code input budgets so_far layout → after.code ≡ parts_of code → after.input_len ≡ length input → after.budget ≡ budgets.control
-      → given_by after ≡ given_by so_far → AreLaidOut code input budgets after layout
-  laid_anew so_far after layout laid code_is input_is budget_is same = record {
-    code_is = code_is;
-    input_is = input_is;
-    budget_is = budget_is;
-    fit = subst (All (Fits (parts_of code))) (sym same) laid.fit;
-    lawful = subst (AreLawful code.streams) (sym same) laid.lawful;
-    has_output = laid.has_output;
-    streams = laid.streams;
-    over = laid.over;
-    laid = subst (IsLayoutOf layout) (sym same) laid.laid;
-  }
-
   -- a stretch more is created and laid out
   pub laid_on : (run after : Standing) (count : ℕ) → AreLaidOut code input budgets run.control run.layout → HasCreated count run.control after.control [] after.activations
       → ((before : List Activation) → IsLayoutOf run.layout before → IsLayoutOf after.layout (before ++ after.activations)) → length after.layout.writers ≡ length run.layout.writers
@@ -120,42 +106,70 @@ module _ (code : Code) (input : List ℕ) (budgets : Budgets) where
   pub none_left : (run : Standing) (order : InOrder) → AreSharedOut code input budgets run.control run.layout order → length (given_by run.control) ≤ length order.ends → [] ≡ drop (length order.ends) all
   none_left run order shared all_ran = sym (drop_all (length order.ends) all (let s = ap length shared.all in omega (arith, s, all_ran)))
 
-  -- The control program run anew: it has given so many.
-  pub record HasGiven (run : RunSoFar) (count : ℕ) : Type 0 where
-    pub code_is : run.code ≡ parts_of code
-    pub input_is : run.input_len ≡ length input
-    pub budget_is : run.budget ≡ budgets.control
-    pub given_is : run.given ≡ count
-
-  pub has_passed : (count : ℕ) → count ≤ length all → HasGiven (passed (not_begun (parts_of code) (length input) budgets.control) count) count
-  has_passed count within = by (count == 0) refl
+  -- before the control program has created any
+  pub none_laid_out : (so_far : RunSoFar) (layout : Layout) → so_far ≡ not_begun (parts_of code) (length input) budgets.control → 2 ≤ code.streams → IsLayoutOf layout []
+      → length layout.writers ≡ code.streams → layout.input_len ≡ length input → AreLaidOut code input budgets so_far layout
+  none_laid_out so_far layout is two laid streams over = record {
+    code_is = ap (λ (r : RunSoFar). r.code) is;
+    input_is = ap (λ (r : RunSoFar). r.input_len) is;
+    budget_is = ap (λ (r : RunSoFar). r.budget) is;
+    fit = subst (All (Fits (parts_of code))) (sym no_given) (All-nil (Fits (parts_of code)));
+    lawful = subst (AreLawful code.streams) (sym no_given) (none_lawful code.streams);
+    has_output = two;
+    streams = streams;
+    over = over;
+    laid = subst (IsLayoutOf layout) (sym no_given) laid;
+  }
     where
-      begun : RunSoFar
-      begun = not_begun (parts_of code) (length input) budgets.control
+      no_given : given_by so_far ≡ []
+      no_given = ap given_by is
 
-      by : (b : Bool) → (count == 0) ≡ b → HasGiven (cond b begun (advanced begun count)) count
-      by true e = record { code_is = refl; input_is = refl; budget_is = refl; given_is = sym (eqb-true count 0 e) }
-      by false e = record { code_is = refl; input_is = refl; budget_is = refl; given_is = let l = length-take-le count all within in omega (arith, l) }
+  -- those that ran are created and laid out, and no others
+  pub created_anew : (run : Standing) (order : InOrder) → FirstOnesRan code input budgets order → AreLaidOut code input budgets run.control run.layout
+      → length (given_by run.control) ≡ length order.ends → run.first ≡ length order.ends → run.activations ≡ [] → HaveRunInOrder code input budgets run order
+  created_anew run order ran laid count first none = record {
+    goes = record {
+      laid_out = laid;
+      are_last = none ∙ sym (drop_all run.first given (omega (arith, first, count)));
+      have_run = omega (arith, first);
+      within = omega (arith, count);
+      ready = ran.ready;
+      behind = subst (λ (xs : List Activation). StandsBehind (parts_of code) all xs input budgets.task order) same ran.behind;
+    };
+    all = sym count;
+  }
+    where
+      given : List Activation
+      given = given_by run.control
 
-  -- then it gives the others
-  module _ (run : RunSoFar) (count most : ℕ) (has : HasGiven run count) (within : count ≤ length all) (few : length all < most) where
-    pub all_of : (whole run).activations ≡ all
-    all_of =
-        ap (λ (c : Control). c.activations)
-        (ap (λ p. control p run.input_len run.budget) has.code_is ∙ ap (λ n. control (parts_of code) n run.budget) has.input_is ∙ ap (control (parts_of code) (length input)) has.budget_is)
+      same : take (length order.ends) all ≡ take (length order.ends) given
+      same =
+          ap (λ n. take n all) (sym count)
+          ∙ sym (are_first code input budgets run.control run.layout laid)
+          ∙ sym (take_all (length order.ends) given (omega (arith, count)))
 
-    left : remaining run ≡ drop count all
-    left = ap (λ n. drop n (whole run).activations) has.given_is ∙ ap (drop count) all_of
+  -- how many had run at the last try makes no difference
+  pub tried_at : (run : Standing) (order : InOrder) → HaveRunInOrder code input budgets run order → (tried : ℕ) → HaveRunInOrder code input budgets (record run { tried = tried }) order
+  tried_at run order ran tried = record {
+    goes = record {
+      laid_out = ran.goes.laid_out;
+      are_last = ran.goes.are_last;
+      have_run = ran.goes.have_run;
+      within = ran.goes.within;
+      ready = ran.goes.ready;
+      behind = ran.goes.behind;
+    };
+    all = ran.all;
+  }
 
-    -- the others are the list that it gives then
-    pub others_are : take most (remaining run) ≡ drop count all
-    others_are = ap (take most) left ∙ take_all most (drop count all) (let l = length-drop count all in omega (arith, l, few))
+-- a stretch has so many, where so many remain
+module _ (count : ℕ) (before after : RunSoFar) (next : List Activation) (made : HasCreated count before after [] next) where
+  pub same_whole : length (whole after).activations ≡ length (whole before).activations
+  same_whole = ap (λ (r : RunSoFar). length (whole r).activations) made.is_run
 
-    -- and it has given all
-    pub all_given : given_by (advanced run most) ≡ all
-    all_given =
-        ap (take (run.given + length (take most (remaining run)))) all_of
-        ∙ take_all (run.given + length (take most (remaining run))) all (let l = ap length others_are ∙ length-drop count all in let g = has.given_is in omega (arith, l, g, within))
-
-    pub all_told : (advanced run most).has_ended ≡ true
-    all_told = (lt-ltb (length (remaining run)) most (let l = ap length left ∙ length-drop count all in omega (arith, l, few)))
+  pub grows_by : length (given_by before) + count ≤ length (whole before).activations → length (given_by after) ≡ length (given_by before) + count
+  grows_by within =
+      let w = sym (ap length (take-append-drop before.given (whole before).activations)) ∙ length-append (given_by before) (remaining before) in
+      let l = ap length made.joined ∙ length-append (given_by before) (take count (remaining before)) in
+      let n = length-take-le count (remaining before) (omega (arith, w, within)) in
+      omega (arith, l, n)

@@ -1,6 +1,6 @@
 -- Where a run stands that is shared out.
-use Rattle.std.specs.Prelude.{◌≡◌, ℕ, ◌≤◌, ◌==◌, true, if◌then◌else◌, List, length, take}
-use Rattle.control_run.specs.Stretches.{RunSoFar, advanced, given_by}
+use Rattle.std.specs.Prelude.{◌≡◌, ℕ, ◌≤◌, true, List, length, take}
+use Rattle.control_run.specs.Stretches.{RunSoFar, given_by}
 use Rattle.epoch_run_in_order.specs.Standing.{IsReady, StandsBehind}
 use Rattle.epoch_run_in_order.specs.declared.in_order.InOrder.{InOrder}
 use Rattle.os_code.specs.Codes.{parts_of}
@@ -30,7 +30,3 @@ pub record AreSharedOut (code : Code) (input : List ℕ) (budgets : Budgets) (so
   pub ended : so_far.has_ended ≡ true
   pub all : given_by so_far ≡ created (parts_of code) input budgets
   pub ran : FirstOnesRan code input budgets order
-
--- a run of the control program after it has given so many more activations
-abbrev pub passed : RunSoFar → ℕ → RunSoFar
-passed run count = if count == 0 then run else advanced run count

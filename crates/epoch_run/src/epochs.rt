@@ -24,8 +24,8 @@ use task_workers::Gate;
 /// to is the data-flow meaning of all activations that it creates.
 ///
 /// Where nobody waits and bodies are short, the activations run in control order instead: one after the other, without a plan, until one of
-/// them doesn't find there what it reads. Several workers share such a run out, for which all activations are created: those of them that have
-/// to wait are one epoch then, however many they are.
+/// them doesn't find there what it reads. Several workers share such a run out, for which all activations are created. Where one of them has to
+/// wait, the run goes on behind those that ran, and the others are created again as they come.
 ///
 /// The gate is called as in `execute`, with the number of a frame in its epoch, and in control order with worker 0 and the number of an
 /// activation in its stretch; of activations that a share runs it isn't told. The activations, their positions, their ends and the output are

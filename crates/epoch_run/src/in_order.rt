@@ -25,7 +25,7 @@ use crate::sharing::share_out;
 use crate::standing::Standing;
 use epoch_run_bodies::laws::later_activations_change_nothing;
 use epoch_run_in_order::{HeldInOrder, InOrder};
-use flow_core_laws::{ControlEnd, Ends};
+use flow_core_laws::{ACTIVATIONS_LIMIT, ControlEnd, Ends};
 use os_code::Code;
 use os_io::{List, Memory};
 use std::alloc::Global;
@@ -34,13 +34,13 @@ use std::thread::Threads;
 use task_workers::Gate;
 
 /// How many activations are created before they run.
-const STRETCH: u32 = 256;
+pub(crate) const STRETCH: u32 = 256;
 
 /// How many of them run before the others are shared out among several workers.
 const ALONE: usize = 1_024;
 
 /// More than there ever are.
-const MOST: usize = 65_537;
+const MOST: usize = ACTIVATIONS_LIMIT as usize + 1;
 
 /// Goes on in control order behind activations that all have ended: stretch by stretch, until the control program has ended, or one of a
 /// stretch doesn't find there what it reads, or by several workers the bodies of a stretch are long. What has no end then is left to
@@ -97,7 +97,7 @@ fn begin(run: &mut Standing<'_>, alloc: Global, code: &Code) -> Result<InOrder, 
 }
 
 /// Runs stretch by stretch, as far as that goes. By several workers what comes behind the first stretches is shared out among them, where that
-/// serves.
+/// serves, and what the shares leave goes on stretch by stretch.
 fn run_on<'c, R: Threads + Sync, G: Gate>(
     rt: &R,
     run: &mut Standing<'c>,
@@ -126,8 +126,8 @@ fn run_on<'c, R: Threads + Sync, G: Gate>(
     if !more {
         return Ok(());
     }
-    let shared = share_out(rt, run, order, alloc, code, input, budgets, workers, gate)?;
-    if !shared {
+    let all = share_out(rt, run, order, alloc, code, input, budgets, workers)?;
+    if !all {
         run_stretches(run, order, alloc, code, input, budgets, workers, gate, MOST)?;
     }
     Ok(())
@@ -188,7 +188,7 @@ fn run_stretch<G: Gate>(
     ensures all { IfOk result (λ more. IsTrue more → HaveRunInOrder code.now input.now budgets run.new order.new) }
     ensures more { IfOk result (λ more. IsTrue more → run.new.control.has_ended ≡ false) }
 {
-    create_stretch(run, alloc)?;
+    create_stretch(run, alloc, STRETCH)?;
     let all = run_created(run, order, code, input, budgets, workers, gate)?;
     if !all {
         return Ok(false);
@@ -197,11 +197,17 @@ fn run_stretch<G: Gate>(
     Ok(run.control.end().is_none())
 }
 
-/// Has the control program create the next activations, and lays them out. Those before them have ended, and their lists are used again.
-pub(crate) fn create_stretch(run: &mut Standing<'_>, alloc: Global) -> Result<(), Memory>
+/// Has the control program create the next activations, so many or all that remain, and lays them out. Those before them have ended, and their lists
+/// are used again.
+pub(crate) fn create_stretch(
+    run: &mut Standing<'_>,
+    alloc: Global,
+    count: u32,
+) -> Result<(), Memory>
+    requires some { 1 ≤ count }
     requires laid { IsLayout run.old.layout }
-    requires takes { (after : RunSoFar) (added : List Activation) → HasCreated 256 run.old.control after [] added → TakesMore run.old.layout added }
-    ensures created { OnOk result (HasCreated 256 run.old.control run.new.control [] run.new.activations) }
+    requires takes { (after : RunSoFar) (added : List Activation) → HasCreated count run.old.control after [] added → TakesMore run.old.layout added }
+    ensures created { OnOk result (HasCreated count run.old.control run.new.control [] run.new.activations) }
     ensures first { OnOk result (run.new.first ≡ frame_count run.old.layout) }
     ensures laid { OnOk result ((before : List Activation) → IsLayoutOf run.old.layout before → IsLayoutOf run.new.layout (before ++ run.new.activations)) }
     ensures streams { OnOk result (length run.new.layout.writers ≡ length run.old.layout.writers) }
@@ -210,14 +216,14 @@ pub(crate) fn create_stretch(run: &mut Standing<'_>, alloc: Global) -> Result<()
     run.first = run.layout.frames() as u32;
     let ended = mem::replace(&mut run.activations, List::new(alloc));
     run.control.reuse(ended);
-    create(&mut run.control, &mut run.activations, STRETCH)?;
+    create(&mut run.control, &mut run.activations, count)?;
     run.layout.append(run.activations.as_slice())?;
     Ok(())
 }
 
 /// Runs the activations of a stretch, as far as each of them finds there what it reads, and tells how long their bodies were. It
 /// answers whether all of them ran.
-pub(crate) fn run_created<G: Gate>(
+fn run_created<G: Gate>(
     run: &mut Standing<'_>,
     order: &mut InOrder,
     code: &Code,

@@ -13,7 +13,7 @@ ghost use Rattle.epoch_run.specs.Sharing.{AreSharedOut, FirstOnesRan, IsLaidOut}
 ghost use Rattle.epoch_run.specs.declared.result.Budgets.{Budgets};
 
 use crate::borders::Borders;
-use crate::in_order::create_stretch;
+use crate::in_order::{STRETCH, create_stretch};
 use crate::result::Budgets;
 use crate::standing::Standing;
 use epoch_run_in_order::{Apart, InOrder};
@@ -40,6 +40,7 @@ pub(crate) fn run_shares<R: Threads + Sync>(
     requires budgets { AreBudgets budgets }
     requires ran { HaveRunInOrder code.now input.now budgets run.old order.old }
     ensures shared { OnOk result (AreSharedOut code.now input.now budgets run.new.control run.new.layout order.new) }
+    ensures no_fewer { OnOk result (length order.old.ends ≤ length order.new.ends) }
 {
     if number == 0 {
         return lead(run, order, alloc, code, input, budgets, borders);
@@ -53,7 +54,8 @@ pub(crate) fn run_shares<R: Threads + Sync>(
     let mut others = || -> Result<(), Memory>
         requires { IsSync R.row × (1 ≤ number) × (length input.now ≤ 4194304) × AreBudgets budgets
             × HaveRunInOrder code.now input.now budgets run.now order.now }
-        ensures { OnOk result (AreSharedOut code.entry.now input.entry.now budgets run.exit.now.control run.exit.now.layout order.exit.now) }
+        ensures { OnOk result (AreSharedOut code.entry.now input.entry.now budgets run.exit.now.control run.exit.now.layout order.exit.now
+            × (length order.entry.now.ends ≤ length order.exit.now.ends)) }
     {
         run_shares(
             rt,
@@ -133,6 +135,7 @@ fn lead(
     requires budgets { AreBudgets budgets }
     requires ran { HaveRunInOrder code.now input.now budgets run.old order.old }
     ensures shared { OnOk result (AreSharedOut code.now input.now budgets run.new.control run.new.layout order.new) }
+    ensures no_fewer { OnOk result (length order.old.ends ≤ length order.new.ends) }
 {
     lay_out_rest(run, alloc)?;
     let apart = run_numbered(alloc, code, input, budgets, borders, 0)?;
@@ -149,7 +152,7 @@ fn lay_out_rest(run: &mut Standing<'_>, alloc: Global) -> Result<(), Memory>
     ensures told { OnOk result (given_by run.new.control ≡ (whole run.new.control).activations) }
 {
     'stretches: loop {
-        create_stretch(run, alloc)?;
+        create_stretch(run, alloc, STRETCH)?;
         if run.control.end().is_some() {
             break 'stretches;
         }
@@ -159,7 +162,8 @@ fn lay_out_rest(run: &mut Standing<'_>, alloc: Global) -> Result<(), Memory>
 
 /// Puts a share behind those that ran, if it is there.
 fn join_some(order: &mut InOrder, share: Option<Apart>) -> Result<(), Memory>
-    ensures { OnOk result ((code : Code) (input : List ℕ) (budgets : Budgets)
+    ensures no_fewer { OnOk result (length order.old.ends ≤ length order.new.ends) }
+    ensures ran { OnOk result ((code : Code) (input : List ℕ) (budgets : Budgets)
         → IfSome share (λ apart. IsReady code apart.order × IsShare (parts_of code) input budgets.control budgets.task apart)
         → FirstOnesRan code input budgets order.old → FirstOnesRan code input budgets order.new) }
 {
@@ -171,7 +175,8 @@ fn join_some(order: &mut InOrder, share: Option<Apart>) -> Result<(), Memory>
 
 /// Puts a share behind those that ran, if it goes on where these end.
 fn join_one(order: &mut InOrder, apart: &Apart) -> Result<(), Memory>
-    ensures { OnOk result ((code : Code) (input : List ℕ) (budgets : Budgets) → IsReady code apart.now.order
+    ensures no_fewer { OnOk result (length order.old.ends ≤ length order.new.ends) }
+    ensures ran { OnOk result ((code : Code) (input : List ℕ) (budgets : Budgets) → IsReady code apart.now.order
         → IsShare (parts_of code) input budgets.control budgets.task apart.now
         → FirstOnesRan code input budgets order.old → FirstOnesRan code input budgets order.new) }
 {

@@ -1,13 +1,16 @@
 //! Sharing a run in control order out among several workers.
 
-ghost use Rattle.std.specs.Prelude.{◌≡◌, ◌≤◌, false, true, IfOk, OnOk, length};
+ghost use Rattle.std.specs.Prelude.{◌≡◌, ◌≤◌, ◌+◌, ℕ, List, [], false, true, IfOk, OnOk, length};
 ghost use Rattle.control_run.specs.Stretches.{given_by, whole};
-ghost use Rattle.epoch_run.specs.InOrder.{GoesInOrder, HaveRunInOrder};
-ghost use Rattle.epoch_run.specs.Run.{AreBudgets};
-ghost use Rattle.epoch_run.specs.Sharing.{AreSharedOut, passed};
+ghost use Rattle.os_code.specs.Codes.{parts_of};
+ghost use Rattle.os_code.specs.declared.code.Code.{Code};
+ghost use Rattle.epoch_run.specs.InOrder.{AreLaidOut, GoesInOrder, HaveRunInOrder};
+ghost use Rattle.epoch_run.specs.Run.{AreBudgets, created};
+ghost use Rattle.epoch_run.specs.Sharing.{AreSharedOut, IsLaidOut};
+ghost use Rattle.epoch_run.specs.declared.result.Budgets.{Budgets};
 
 use crate::borders::Borders;
-use crate::in_order::run_created;
+use crate::in_order::{STRETCH, create_stretch};
 use crate::result::Budgets;
 use crate::shares::run_shares;
 use crate::standing::Standing;
@@ -18,17 +21,15 @@ use os_code::Code;
 use os_io::{List, Memory};
 use std::alloc::Global;
 use std::thread::Threads;
-use task_workers::Gate;
+use stream_match::Layout;
 
 /// How many activations are run apart from those before them to see whether that can be done.
 const TRIED: u32 = 256;
 
-/// More activations than there ever are.
-const MOST: u32 = 65_537;
-
 /// Shares the activations that haven't run out among several workers, where bodies are long enough for that and those that come next can be run
-/// apart from those before them, and runs what is left then. It answers whether it did; else the run is as it was. After `Memory` the run is to be given up.
-pub(crate) fn share_out<'c, R: Threads + Sync, G: Gate>(
+/// apart from those before them. It answers whether all activations ran; else the run stands behind the first ones, which did, and goes on from
+/// there. After `Memory` it is to be given up.
+pub(crate) fn share_out<'c, R: Threads + Sync>(
     rt: &R,
     run: &mut Standing<'c>,
     order: &mut InOrder,
@@ -37,20 +38,21 @@ pub(crate) fn share_out<'c, R: Threads + Sync, G: Gate>(
     input: &[u8],
     budgets: Budgets,
     workers: u32,
-    gate: &G,
 ) -> Result<bool, Memory>
     requires input { length input.now ≤ 4194304 }
     requires budgets { AreBudgets budgets }
     requires ran { HaveRunInOrder code.now input.now budgets run.old order.old }
-    ensures same { IfOk result (λ shared. shared ≡ false → (run.new ≡ run.old) × (order.new ≡ order.old)) }
-    ensures goes { IfOk result (λ shared. shared ≡ true → GoesInOrder code.now input.now budgets run.new order.new) }
-    ensures ended { IfOk result (λ shared. shared ≡ true → run.new.control.has_ended ≡ true) }
-    ensures told { IfOk result (λ shared. shared ≡ true → given_by run.new.control ≡ (whole run.new.control).activations) }
+    ensures goes { IfOk result (λ all. all ≡ true → GoesInOrder code.now input.now budgets run.new order.new) }
+    ensures ended { IfOk result (λ all. all ≡ true → run.new.control.has_ended ≡ true) }
+    ensures told { IfOk result (λ all. all ≡ true → given_by run.new.control ≡ (whole run.new.control).activations) }
+    ensures stays { IfOk result (λ all. all ≡ false → HaveRunInOrder code.now input.now budgets run.new order.new) }
+    ensures no_fewer { IfOk result (λ all. all ≡ false → length (given_by run.old.control) ≤ length (given_by run.new.control)) }
 {
-    if !run.held.pace.is_worth_shares(workers) {
+    let first = order.ends.len() as u32;
+    if !is_worth_a_try(run, first, workers) {
         return Ok(false);
     }
-    let first = order.ends.len() as u32;
+    run.tried = first;
     let apart = runs_apart(alloc, code, input, budgets, first)?;
     if !apart {
         return Ok(false);
@@ -67,9 +69,14 @@ pub(crate) fn share_out<'c, R: Threads + Sync, G: Gate>(
         borders,
         borders.last(),
     )?;
-    take_up(run, order, alloc, code, input, budgets)?;
-    run_created(run, order, code, input, budgets, workers, gate)?;
-    Ok(true)
+    let all = take_up(run, order, alloc, code, input, budgets)?;
+    Ok(all)
+}
+
+/// Whether so many workers are to try to share a run out behind so many activations: bodies are long enough, and at least twice as many activations
+/// have run as at the last try. So what all tries pass together grows with the number of activations, and not with its square.
+fn is_worth_a_try(run: &Standing<'_>, first: u32, workers: u32) -> bool {
+    run.held.pace.is_worth_shares(workers) && first >= run.tried.saturating_mul(2)
 }
 
 /// Whether some activations from a number on run apart from those before them.
@@ -97,7 +104,8 @@ fn runs_apart(
     Ok(ran >= end as usize)
 }
 
-/// Makes the activations that haven't run those of the list, created anew.
+/// Has a run that was shared out stand behind the activations that ran. It answers whether these are all; else the control program has come too far,
+/// as the layout has, and both are made anew for these alone.
 fn take_up<'c>(
     run: &mut Standing<'c>,
     order: &InOrder,
@@ -105,35 +113,74 @@ fn take_up<'c>(
     code: &'c Code,
     input: &[u8],
     budgets: Budgets,
-) -> Result<(), Memory>
+) -> Result<bool, Memory>
     requires input { length input.now ≤ 4194304 }
     requires budgets { AreBudgets budgets }
     requires shared { AreSharedOut code.now input.now budgets run.old.control run.old.layout order.now }
-    ensures goes { OnOk result (GoesInOrder code.now input.now budgets run.new order.now) }
-    ensures first { OnOk result (run.new.first ≡ length order.now.ends) }
-    ensures ended { OnOk result (run.new.control.has_ended ≡ true) }
-    ensures told { OnOk result (given_by run.new.control ≡ (whole run.new.control).activations) }
+    ensures goes { IfOk result (λ all. all ≡ true → GoesInOrder code.now input.now budgets run.new order.now) }
+    ensures ended { IfOk result (λ all. all ≡ true → run.new.control.has_ended ≡ true) }
+    ensures told { IfOk result (λ all. all ≡ true → given_by run.new.control ≡ (whole run.new.control).activations) }
+    ensures stays { IfOk result (λ all. all ≡ false → HaveRunInOrder code.now input.now budgets run.new order.now) }
 {
     run.first = order.ends.len() as u32;
     run.activations = List::new(alloc);
     if order.ends.len() >= run.layout.frames() {
-        return Ok(());
+        return Ok(true);
     }
-    let mut control = ControlRun::new(alloc, code, input.len() as u32, budgets.control)?;
-    pass(alloc, &mut control, run.first)?;
-    control.advance(&mut run.activations, MOST)?;
+    create_anew(run, alloc, code, input, budgets, order.ends.len() as u32)?;
+    Ok(false)
+}
+
+/// Has the control program create the first activations anew, so many, and lays out these alone. They have run, so that none of them stays in the list.
+fn create_anew<'c>(
+    run: &mut Standing<'c>,
+    alloc: Global,
+    code: &'c Code,
+    input: &[u8],
+    budgets: Budgets,
+    count: u32,
+) -> Result<(), Memory>
+    requires input { length input.now ≤ 4194304 }
+    requires budgets { AreBudgets budgets }
+    requires within { count ≤ length (created (parts_of code.now) input.now budgets) }
+    ensures laid { OnOk result (AreLaidOut code.now input.now budgets run.new.control run.new.layout) }
+    ensures count { OnOk result (length (given_by run.new.control) ≡ count) }
+    ensures first { OnOk result (run.new.first ≡ count) }
+    ensures none { OnOk result (run.new.activations ≡ []) }
+{
+    let control = ControlRun::new(alloc, code, input.len() as u32, budgets.control)?;
+    let layout = Layout::new(alloc, code.streams, input.len() as u32)?;
     run.control = control;
+    run.layout = layout;
+    lay_out_first(run, alloc, count)?;
+    run.first = count;
+    run.activations = List::new(alloc);
     Ok(())
 }
 
-/// Has the control program create so many activations, which are given up at once.
-fn pass(alloc: Global, control: &mut ControlRun<'_>, count: u32) -> Result<(), Memory>
-    ensures { OnOk result (control.new ≡ passed control.old count) }
+/// Has a control program that has created nothing yet create so many activations, stretch by stretch, and lays them out.
+fn lay_out_first(run: &mut Standing<'_>, alloc: Global, count: u32) -> Result<(), Memory>
+    requires laid { IsLaidOut run.old.control run.old.layout }
+    requires none { length (given_by run.old.control) ≡ 0 }
+    requires within { count ≤ length (whole run.old.control).activations }
+    ensures laid { OnOk result ((code : Code) (input : List ℕ) (budgets : Budgets) → AreLaidOut code input budgets run.old.control run.old.layout
+        → AreLaidOut code input budgets run.new.control run.new.layout) }
+    ensures count { OnOk result (length (given_by run.new.control) ≡ count) }
 {
-    if count == 0 {
-        return Ok(());
+    let mut left = count;
+    'stretches: while left > 0 {
+        let next = stretch_of(left);
+        create_stretch(run, alloc, next)?;
+        left -= next;
     }
-    let mut given_up = List::new(alloc);
-    control.advance(&mut given_up, count)?;
     Ok(())
+}
+
+/// How many activations the next stretch has, where so many are left.
+fn stretch_of(left: u32) -> u32
+    requires { 1 ≤ left }
+    ensures some { 1 ≤ result }
+    ensures few { result ≤ left }
+{
+    left.min(STRETCH)
 }

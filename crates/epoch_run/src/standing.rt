@@ -48,6 +48,8 @@ pub(crate) struct Standing<'c> {
     pub layout: Layout,
     /// What is held of those that were run.
     pub held: Held,
+    /// How many activations had run when several workers last tried to share the run out.
+    pub(crate) tried: u32,
 }
 
 impl<'c> Standing<'c> {
@@ -71,6 +73,7 @@ impl<'c> Standing<'c> {
             first: 0,
             layout,
             held: Held::nothing(alloc),
+            tried: 0,
         })
     }
 

@@ -4,7 +4,10 @@ use Rattle.epoch_run.specs.Run.{created}
 use Rattle.epoch_run.proofs.SharedOut.{joined}
 use Rattle.epoch_run.proofs.shares.join_one.Goals as goal
 
-pub returns : goal.returns
-returns c = λ code input budgets ready_apart share ran.
+pub returns-clause-no_fewer : goal.returns-clause-no_fewer
+returns-clause-no_fewer c = let count = c.in_ok-join.ensures.count in omega (arith, c.if-first-ran.false, c.len-ran.ensures, count)
+
+pub returns-clause-ran : goal.returns-clause-ran
+returns-clause-ran c = λ code input budgets ready_apart share ran.
     joined code input budgets c.args.order.now c.join.new.self c.args.apart.now ready_apart share ran (omega (arith, c.if-first-ran.false, c.len-ran.ensures)) (c.in_ok-join.ensures.ready code) c.in_ok-join.ensures.count
     (λ before. c.in_ok-join.ensures.stands (parts_of code) (created (parts_of code) input budgets) before input budgets.task)
