@@ -249,6 +249,37 @@ for workers in 2 3 4 8 64; do
         "trapped 18000 code 2 line 8 / poisoned 18001 by 18000 / poisoned 18002 by 18000 / control done / output 6000 of 8000"
 done
 
+# So does one of which an activation waits for what is written 300 activations behind it: those before it are shared out, and the others run in epochs.
+cat >waiting.c <<'END'
+int main(void) {
+    int s __attribute__((stream));
+    int i, x, y, z;
+    for (i = 0; i < 15000; i++) {
+        if (i == 9000) {
+            #pragma omp task input(s >> x) output(osout << z)
+            z = x;
+        }
+        if (i == 9300) {
+            #pragma omp task output(s << x)
+            x = 77;
+        }
+        #pragma omp task input(osin >> y) output(osout << z)
+        {
+            int k;
+            z = y;
+            for (k = 0; k < 20; k++) z = (z * 3 + k) & 255;
+        }
+    }
+}
+END
+bytes 15000 'x / 65536 % 256' >waiting.in
+run run waiting.c waiting.in --workers 1
+mv out alone.bin
+for workers in 2 3 4 8 64; do
+    run run waiting.c waiting.in --workers "$workers"
+    agree "one that waits behind shares, by $workers workers" 0 alone.bin "control done / output 15001 of 15001"
+done
+
 # As many activations as a run may have, and a megabyte in blocks of 64.
 head -c 65536 /dev/zero >zeros.bin
 head -c 65538 /dev/zero >more.bin

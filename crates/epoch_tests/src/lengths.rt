@@ -73,6 +73,33 @@ const KEPT: &str = r"int main(void) {
 }
 ";
 
+/// The read cursors of the input and of a stream move on between activations, so that some elements are read by nobody; one activation waits for
+/// what is written far behind its own cursor.
+const TICKED: &str = r"int main(void) {
+    int s __attribute__((stream));
+    int i, x, y, z;
+    for (i = 0; i < 7; i++) {
+        int w[3];
+        #pragma omp task input(osin >> x) output(s << w[3], osout << y)
+        { w[0] = x; w[1] = x + i; w[2] = i; y = x; }
+        #pragma omp tick(osin >> 1)
+        #pragma omp tick(s >> 2)
+        #pragma omp task input(s >> x) output(osout << z)
+        z = x;
+    }
+    #pragma omp tick(s >> 4)
+    #pragma omp task input(s >> x) output(osout << y)
+    y = x;
+    for (i = 0; i < 5; i++) {
+        #pragma omp task output(s << x)
+        x = 40 + i;
+        #pragma omp tick(osin >> 1)
+    }
+    #pragma omp task input(osin >> x) output(osout << y)
+    y = x;
+}
+";
+
 /// Activations that wait for one another, and others behind them; some read behind the end of the input, and one waits for one
 /// of these.
 const STARVED: &str = r"int main(void) {
@@ -143,9 +170,9 @@ const LONG: &str = r"int main(void) {
 }
 ";
 
-const PROGRAMS: [&str; 12] = [
-    INVERT, SMOOTH, LIFT, UNLIFT, PIPELINE, BROADCAST, WAITING, BACKWARD, KEPT, STARVED, POISONED,
-    LONG,
+const PROGRAMS: [&str; 13] = [
+    INVERT, SMOOTH, LIFT, UNLIFT, PIPELINE, BROADCAST, WAITING, BACKWARD, KEPT, TICKED, STARVED,
+    POISONED, LONG,
 ];
 
 /// Epochs of at most so many activations, whatever their windows.

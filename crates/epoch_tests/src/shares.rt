@@ -105,27 +105,56 @@ const CHAIN: &str = r"int main(void) {
 }
 ";
 
-/// A program with the turns of `main`, and how many activations of it are run by one thread at least and at most.
+/// Each of 15,000 runs by itself, but for the one that waits for what is written 300 activations behind it.
+const WAITING: &str = r"int main(void) {
+    int s __attribute__((stream));
+    int i, x, z;
+    for (i = 0; i < 15000; i++) {
+        if (i == 9000) {
+            #pragma omp task input(s >> x) output(osout << z)
+            z = x;
+        }
+        if (i == 9300) {
+            #pragma omp task output(s << x)
+            x = 77;
+        }
+        #pragma omp task output(osout << z)
+        {
+            int k;
+            z = i & 255;
+            for (k = 0; k < 20; k++) z = (z * 3 + k) & 255;
+        }
+    }
+}
+";
+
+/// A program with the turns of `main`, and how many activations of it aren't run by shares at least and at most.
 type Case = (&'static str, u64, u32, u32);
 
-/// The first 1,024 run alone. `main` of the second one has turns for 7,000 of its loop.
-const CASES: [Case; 5] = [
+/// The first 1,024 run alone. `main` of the second one has turns for 7,000 of its loop. Behind the one that waits, the others run in epochs.
+const CASES: [Case; 6] = [
     (PAIRS, 1_000_000, 1_024, 2_000),
     (PAIRS, 7_000, 1_024, 2_000),
     (THREES, 1_000_000, 1_024, 2_000),
-    (CHAINED, 1_000_000, 5_000, 10_000),
+    (CHAINED, 1_000_000, 10_000, 15_000),
     (CHAIN, 1_000_000, 5_001, 5_001),
+    (WAITING, 1_000_000, 5_000, 9_000),
 ];
 
-/// How often a thread passed it that runs activations one after the other.
+/// More frames than an epoch has, where fewer than 256 activations wait for its new ones.
+const MOST_FRAMES: u32 = 4_096 + 256;
+
+/// How often it was passed, and the largest number of a frame in its epoch.
 #[derive(Drop)]
 struct Calls {
     count: AtomicU32,
+    largest: AtomicU32,
 }
 
 impl Gate for Calls {
-    fn at(&self, _worker: u32, _frame: u32) {
+    fn at(&self, _worker: u32, frame: u32) {
         self.count.fetch_add(1, Ordering::SeqCst);
+        self.largest.fetch_max(frame, Ordering::SeqCst);
     }
 }
 
@@ -148,21 +177,24 @@ fn run<R: Threads + Sync, G: Gate>(
     run_epochs(rt, alloc, code, &[], budgets, workers, gate).ok()
 }
 
-/// Whether a program comes to the same by four workers as by one, and how many activations one thread ran of these.
+/// Whether a program comes to the same by four workers as by one, and how the gate was passed: how often, and with which largest number.
 fn shared<R: Threads + Sync>(
     rt: &R,
     alloc: Global,
     code: &Code,
     control: u64,
-) -> Option<(bool, u32)>
+) -> Option<(bool, u32, u32)>
     requires { control ≤ 1000000 }
 {
     let alone = run(rt, alloc, code, control, 1, &NoGate)?;
     let calls = Calls {
         count: AtomicU32::new(0),
+        largest: AtomicU32::new(0),
     };
     let run = run(rt, alloc, code, control, 4, &calls)?;
-    Some((are_same(&run, &alone), calls.count.load(Ordering::SeqCst)))
+    let count = calls.count.load(Ordering::SeqCst);
+    let largest = calls.largest.load(Ordering::SeqCst);
+    Some((are_same(&run, &alone), count, largest))
 }
 
 #[test]
@@ -172,11 +204,12 @@ fn shares_come_to_what_one_worker_comes_to(rt: HostRuntime) -> Result<(), Fail> 
         let Some(code) = compiled(&rt, rt.alloc(), text) else {
             return Err(Fail::from("a program"));
         };
-        let Some((same, calls)) = shared(&rt, rt.alloc(), &code, control) else {
+        let Some((same, calls, largest)) = shared(&rt, rt.alloc(), &code, control) else {
             return Err(Fail::from("ample memory"));
         };
         assert!(rt; same, "{text}");
         assert!(rt; least <= calls && calls <= most, "{calls} of {text}");
+        assert!(rt; largest < MOST_FRAMES, "{largest} of {text}");
     }
     Ok(())
 }
