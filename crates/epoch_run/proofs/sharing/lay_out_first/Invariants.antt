@@ -1,0 +1,18 @@
+use Rattle.std.proofs.Common.{◌≡◌, ◌+◌, ◌≤◌, ℕ, List, length}
+use Rattle.control_run.specs.Stretches.{given_by, whole}
+use Rattle.os_code.specs.declared.code.Code.{Code}
+use Rattle.epoch_run.specs.InOrder.{AreLaidOut}
+use Rattle.epoch_run.specs.Sharing.{IsLaidOut}
+use Rattle.epoch_run.specs.declared.result.Budgets.{Budgets}
+use Rattle.epoch_run.proofs.sharing.lay_out_first.Given as goal
+
+abbrev pub invariant-stretches : goal.invariant-stretches
+invariant-stretches l = record {
+  laid : IsLaidOut l.run.control l.run.layout;
+  keeps : (code : Code) (input : List ℕ) (budgets : Budgets) → AreLaidOut code input budgets l.fn.run.control l.fn.run.layout → AreLaidOut code input budgets l.run.control l.run.layout;
+  counted : length (given_by l.run.control) + l.left ≡ l.count;
+  within : l.count ≤ length (whole l.run.control).activations;
+}
+
+abbrev pub decreases-stretches : goal.decreases-stretches
+decreases-stretches l = l.left
