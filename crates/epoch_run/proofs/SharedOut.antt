@@ -1,5 +1,5 @@
 -- Runs that are shared out: from a run in control order to its shares, and back.
-use Rattle.std.proofs.Common.{◌≡◌, ℕ, ◌+◌, ◌-◌, ◌<◌, ◌≤◌, List, [], ◌∷◌, ◌++◌, true, drop, length, take, refl, sym, ap, ◌∙◌, subst, arith}
+use Rattle.std.proofs.Common.{◌≡◌, ℕ, ◌+◌, ◌≤◌, List, [], ◌++◌, true, drop, length, take, sym, ap, ◌∙◌, subst, arith}
 use Rattle.std.specs.Prelude.{All}
 use Rattle.std.proofs.lemmas.List.{drop_all, length-append, length-take, length-take-le, take-append-drop, take-take, take_all}
 use Rattle.std.proofs.lemmas.List.Elements.{All-nil}
@@ -13,7 +13,6 @@ use Rattle.flow_core_laws.specs.declared.control.Control.{Control}
 use Rattle.os_code.specs.Codes.{parts_of}
 use Rattle.os_code.specs.Outcomes.{control}
 use Rattle.os_code.specs.declared.code.Code.{Code}
-use Rattle.os_code.specs.declared.parts.Parts.{Parts}
 use Rattle.os_code.specs.Tasks.{Fits}
 use Rattle.stream_match_layouts.specs.Lawful.{AreLawful}
 use Rattle.stream_match_layouts.specs.Layout.{IsLayoutOf}

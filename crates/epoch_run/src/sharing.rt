@@ -1,6 +1,6 @@
 //! Sharing a run in control order out among several workers.
 
-ghost use Rattle.std.specs.Prelude.{◌≡◌, ◌≤◌, ◌+◌, ℕ, List, [], false, true, IfOk, OnOk, length};
+ghost use Rattle.std.specs.Prelude.{◌≡◌, ◌≤◌, ℕ, List, [], false, true, IfOk, OnOk, length};
 ghost use Rattle.control_run.specs.Stretches.{given_by, whole};
 ghost use Rattle.os_code.specs.Codes.{parts_of};
 ghost use Rattle.os_code.specs.declared.code.Code.{Code};

@@ -1,4 +1,4 @@
-use Rattle.std.proofs.Common.{◌≡◌, length, arith}
+use Rattle.std.proofs.Common.{arith}
 use Rattle.os_code.specs.Codes.{parts_of}
 use Rattle.epoch_run.specs.Run.{created}
 use Rattle.epoch_run.proofs.SharedOut.{joined}

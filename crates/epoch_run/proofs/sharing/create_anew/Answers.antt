@@ -1,6 +1,5 @@
-use Rattle.std.proofs.Common.{◌≡◌, ap, arith, length}
+use Rattle.std.proofs.Common.{ap, arith, length}
 use Rattle.control_run.specs.Stretches.{RunSoFar, given_by, whole}
-use Rattle.epoch_run.specs.InOrder.{AreLaidOut}
 use Rattle.epoch_run.proofs.SharedOut.{none_laid_out}
 use Rattle.epoch_run.proofs.sharing.create_anew.Goals as goal
 

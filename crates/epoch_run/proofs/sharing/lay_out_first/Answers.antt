@@ -1,4 +1,4 @@
-use Rattle.std.proofs.Common.{◌≡◌, arith}
+use Rattle.std.proofs.Common.{arith}
 use Rattle.epoch_run.proofs.SharedOut.{grows_by, laid_on, same_whole}
 use Rattle.epoch_run.proofs.sharing.lay_out_first.Goals as goal
 

@@ -1,4 +1,4 @@
-use Rattle.std.proofs.Common.{◌≡◌, arith}
+use Rattle.std.proofs.Common.{arith}
 use Rattle.epoch_run.proofs.SharedOut.{tried_at}
 use Rattle.epoch_run.proofs.sharing.share_out.Goals as goal
 

@@ -1,4 +1,4 @@
-use Rattle.std.proofs.Common.{◌≡◌, ◌∙◌, arith}
+use Rattle.std.proofs.Common.{◌∙◌, arith}
 use Rattle.stream_match_layouts.proofs.Tallies.{frame_count-is}
 use Rattle.control_run.specs.Stretches.{given_by}
 use Rattle.epoch_run.proofs.SharedOut.{created_anew, none_left, taken_up}
