@@ -4,3 +4,5 @@ pub mod Lasts
 pub mod OneSeat
 -- What a hand is told by the lines that it asks.
 pub mod Told
+-- Activations of which tests make epochs.
+pub mod Worked

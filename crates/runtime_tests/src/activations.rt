@@ -1,6 +1,6 @@
 //! Activations that are nothing but their claims, where they stand, and their plans.
 
-ghost use Rattle.std.specs.Prelude.{IfOk};
+ghost use Rattle.std.specs.Prelude.{◌≡◌, [], IfOk};
 ghost use Rattle.flow_core_laws.specs.IsSound.{IsSound};
 ghost use Rattle.stream_match_layouts.specs.Layout.{IsLayout};
 
@@ -60,7 +60,9 @@ fn activations_of(alloc: Global, tasks: &[&[Claim]]) -> Result<Vec<Activation>, 
 }
 
 /// An activation with these claims.
-pub(crate) fn activation_of(alloc: Global, claims: &[Claim]) -> Result<Activation, Memory> {
+pub(crate) fn activation_of(alloc: Global, claims: &[Claim]) -> Result<Activation, Memory>
+    ensures { IfOk result (λ a. a ≡ record { site = 0; captured = []; claims = claims.now }) }
+{
     Ok(Activation {
         site: 0,
         captured: List::new(alloc),

@@ -10,6 +10,8 @@ mod activations;
 #[cfg(test)]
 mod bytes;
 #[cfg(test)]
+mod epochs;
+#[cfg(test)]
 mod hands;
 #[cfg(test)]
 mod layouts;
