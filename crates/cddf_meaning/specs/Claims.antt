@@ -5,6 +5,7 @@ use Rattle.c_int.specs.declared.control_limit.ControlLimit.{ControlLimit}
 use Rattle.c_int.specs.declared.control_limit.ControlLimit.TheVariants.{Activations, Elements}
 use Rattle.cddf_meaning.specs.declared.cursor_move.Move.{Move}
 use Rattle.cddf_meaning.specs.declared.cursor_move.Move.TheVariants.{Take, Tick}
+use Rattle.flow_core_laws.specs.Limits.{activations_limit, positions_limit}
 use Rattle.flow_core_laws.specs.declared.activation.Activation.{Activation}
 use Rattle.flow_core_laws.specs.declared.claim.Claim.{Claim}
 
@@ -39,14 +40,8 @@ horizons claims = sum_by (λ (c : Claim). c.horizon) claims
 abbrev pub all_horizons : List Activation → ℕ
 all_horizons activations = sum_by (λ (a : Activation). horizons a.claims) activations
 
-abbrev pub activations_limit : ℕ
-activations_limit = 65536
-
-abbrev pub horizons_limit : ℕ
-horizons_limit = 4194304
-
 -- The limit that a further activation with these claims would pass: that on the number of activations, or that on the sum of their
 -- horizons. The first one is looked at first.
 abbrev pub limit : List Activation → List Claim → Option ControlLimit
 limit activations claims = if leb activations_limit (length activations) then Some Activations
-    else if ltb horizons_limit (all_horizons activations + horizons claims) then Some Elements else None
+    else if ltb positions_limit (all_horizons activations + horizons claims) then Some Elements else None

@@ -1,5 +1,6 @@
 -- What a statement does. C11, 6.8; the declarations and pragmas of the control program by the rules of streams.
 use Rattle.std.specs.Prelude.{ℕ, zero, suc, ◌+◌, Bool, false, if◌then◌else◌, leb, ◌&&◌, List, [], ◌∷◌}
+use Rattle.flow_core_laws.specs.Limits.{horizon_limit}
 use Rattle.std.specs.Prelude.{length, get_or, replicate, Option, Some, None, ℤ, pos, unwrap_or, Ok}
 use Rattle.std.specs.Option.{option_map_or}
 use Rattle.c_int.specs.Operators.{is_zero}
@@ -98,7 +99,7 @@ run_array file unsigned id size s turns =
 
 -- The size of a window is 1 to 65,536; else it is trap 6, with the line of its `[`.
 abbrev pub window_size : ℕ → ℤ → Answer ℕ
-window_size line v = passing (λ n. leb 1 n && leb n 65536) WindowSize line v
+window_size line v = passing (λ n. leb 1 n && leb n horizon_limit) WindowSize line v
 
 abbrev pub run_window : File → Bool → ℕ → tree.IndexTree → Runs
 run_window file unsigned id i s turns = given (value file i.value s turns) s

@@ -16,6 +16,7 @@ use Rattle.cddf_meaning.specs.declared.cursor_move.Move.TheVariants.{Tick}
 use Rattle.cddf_meaning.specs.declared.ending.Ending.TheVariants.{OverBudget, Limited}
 use Rattle.cddf_meaning.specs.declared.variable.Variable.TheVariants.{Window, Stream}
 use Rattle.cddf_meaning.specs.declared.variable.Variable.{Variable}
+use Rattle.flow_core_laws.specs.Limits.{move_limit}
 use Rattle.flow_core_laws.specs.declared.activation.Activation.{Activation}
 use Rattle.flow_core_laws.specs.declared.claim.Claim.{Claim}
 use Rattle.os_ast.specs.ClauseParts.{ClausePart, Item, Private}
@@ -41,7 +42,7 @@ stream_number file (tree.Element n m e) s turns = let v = find s.bound n.id in
 
 -- The burst of an input item, or the amount of a tick, is 0 to 65,536; else it is trap 7.
 abbrev pub cursor_move : ℕ → ℤ → Answer ℕ
-cursor_move line v = passing (λ n. leb n 65536) Move line v
+cursor_move line v = passing (λ n. leb n move_limit) Move line v
 
 -- The burst of an output window is its horizon; else it is trap 8.
 abbrev pub output_burst : (line horizon : ℕ) → ℤ → Answer ℕ

@@ -3,7 +3,8 @@ use Rattle.std.proofs.Common.{◌≡◌, ℕ, ◌+◌, ◌≤◌, Bool, true, fa
 use Rattle.std.proofs.lemmas.List.Sums.{sum_by-cons, sum_by-append}
 use Rattle.c_int.specs.declared.control_limit.ControlLimit.{ControlLimit}
 use Rattle.c_int.specs.declared.control_limit.ControlLimit.TheVariants.{Activations, Elements}
-use Rattle.cddf_meaning.specs.Claims.{horizons, all_horizons, limit, since_read, with_skip, with_skips, activations_limit, horizons_limit}
+use Rattle.cddf_meaning.specs.Claims.{horizons, all_horizons, limit, since_read, with_skip, with_skips}
+use Rattle.flow_core_laws.specs.Limits.{activations_limit, positions_limit}
 use Rattle.cddf_meaning.specs.declared.cursor_move.Move.{Move}
 use Rattle.cddf_meaning.specs.declared.cursor_move.Move.TheVariants.{Take}
 use Rattle.flow_core_laws.specs.declared.activation.Activation.{Activation}
@@ -39,5 +40,5 @@ pub within : (activations : List Activation) (claims : List Claim) → limit act
     all_horizons activations + horizons claims ≤ 4194304
 within activations claims h =
     let sum = all_horizons activations + horizons claims in
-    let small : ltb horizons_limit sum ≡ false = no_limit Activations Elements (leb activations_limit (length activations)) _ h in
+    let small : ltb positions_limit sum ≡ false = no_limit Activations Elements (leb activations_limit (length activations)) _ h in
     grind (arith, small)

@@ -1,4 +1,5 @@
 ghost use Rattle.std.specs.Prelude.{◌≡◌, ◌≤◌, All, IfOk};
+ghost use Rattle.flow_core_laws.specs.Limits.{budget_limit, input_limit};
 ghost use Rattle.os_code.specs.Codes.{parts_of};
 ghost use Rattle.os_code.specs.Outcomes.{control};
 ghost use Rattle.os_code.specs.Tasks.{Fits};
@@ -22,8 +23,8 @@ pub fn run_control(
     input_len: u32,
     budget: u64,
 ) -> Result<Control, Memory>
-    requires input { input_len ≤ 4194304 }
-    requires budget { budget ≤ 1000000000 }
+    requires input { input_len ≤ input_limit }
+    requires budget { budget ≤ budget_limit }
     // it is exactly the machine's meaning of `main`
     ensures exact { IfOk result (λ made. made ≡ control (parts_of code.now) input_len budget) }
     // each activation fits the code, and they are what a layout takes

@@ -1,4 +1,5 @@
 ghost use Rattle.std.specs.Prelude.{◌≡◌, ℕ, ◌≤◌, [], OnOk};
+ghost use Rattle.flow_core_laws.specs.Limits.{budget_limit, input_limit};
 ghost use Rattle.os_code.specs.declared.parts.Parts.{Parts};
 ghost use Rattle.control_run.specs.Ending.{HasGiven};
 
@@ -35,8 +36,8 @@ impl Machine {
         input_len: u32,
         budget: u64,
     ) -> Result<Machine, Memory>
-        requires input { input_len ≤ 4194304 }
-        requires budget { budget ≤ 1000000000 }
+        requires input { input_len ≤ input_limit }
+        requires budget { budget ≤ budget_limit }
         requires unit { IsMainUnit (parts_of code.now) unit }
         ensures come { IfOk result (λ machine. HasCome (parts_of code.now) input_len budget (contents machine)) }
         ensures nothing { IfOk result (λ machine. machine.made.created ≡ 0) }
@@ -77,7 +78,7 @@ impl Machine {
         into: &mut List<Activation>,
         at_most: u32,
     ) -> Result<Option<Stopped>, Memory>
-        requires budget { budget ≤ 1000000000 }
+        requires budget { budget ≤ budget_limit }
         requires some { 1 ≤ at_most }
         requires stands { HasCome (parts_of code.now) input_len budget (contents self.old) }
         ensures gives { HasGiven (parts_of code.now) input_len budget self.old.made.created self.new.made.created into.old into.new }

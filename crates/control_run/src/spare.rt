@@ -1,6 +1,7 @@
 //! Activations that are run no more, and those that are made in their places.
 
 ghost use Rattle.std.specs.Prelude.{◌≡◌, ◌+◌, ◌++◌, ◌*◌, ◌<◌, ◌≤◌, [], All, IfOk, IfSome, OnErr, OnOk, length, map, pos, slice_index_or, take};
+ghost use Rattle.flow_core_laws.specs.Limits.{activations_limit, positions_limit};
 ghost use Rattle.os_code.specs.Machine.{spawned_claims};
 ghost use Rattle.control_run.specs.Spawning.{HasWindow, spawn_end, spawn_list, spawn_made};
 
@@ -73,8 +74,8 @@ impl Spare {
         requires pairs { length operands.now ≡ 2 * length site.now.items }
         requires few { length site.now.items ≤ 8 }
         requires streams { length made.old.skips ≡ streams }
-        requires positions { made.old.horizons ≤ 4194304 }
-        requires activations { made.old.created ≤ 65536 }
+        requires positions { made.old.horizons ≤ positions_limit }
+        requires activations { made.old.created ≤ activations_limit }
         ensures end { IfOk result (λ end. end ≡ spawn_end made.old site.now.line (spawned_claims streams slots.now site.now.items operands.now)) }
         ensures made { OnOk result (made.new ≡ spawn_made made.old (spawned_claims streams slots.now site.now.items operands.now)) }
         ensures list { OnOk result (self.new ≡ spawn_list self.old made.old number (map (λ slot. slice_index_or slots.now slot (pos 0)) site.now.captured)

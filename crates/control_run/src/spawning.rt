@@ -1,4 +1,5 @@
 ghost use Rattle.std.specs.Prelude.{◌≡◌, ◌*◌, ◌<◌, ◌≤◌, [], All, length, map, pos, slice_index_or};
+ghost use Rattle.flow_core_laws.specs.Limits.{activations_limit, positions_limit};
 ghost use Rattle.os_code.specs.Machine.{spawned_claims};
 ghost use Rattle.control_run.specs.Spawning.{HasShape, HasWindow, one_unless, spawn_end, spawn_list, spawn_made};
 
@@ -24,8 +25,8 @@ pub(crate) fn set_activation(
     requires pairs { length operands.now ≡ 2 * length site.now.items }
     requires few { length site.now.items ≤ 8 }
     requires streams { length made.old.skips ≡ streams }
-    requires positions { made.old.horizons ≤ 4194304 }
-    requires activations { made.old.created ≤ 65536 }
+    requires positions { made.old.horizons ≤ positions_limit }
+    requires activations { made.old.created ≤ activations_limit }
     requires shape { HasShape (length site.now.captured) (length site.now.items) one.old }
     ensures end { result ≡ spawn_end made.old site.now.line (spawned_claims streams slots.now site.now.items operands.now) }
     ensures made { made.new ≡ spawn_made made.old (spawned_claims streams slots.now site.now.items operands.now) }

@@ -36,6 +36,7 @@ impl<'c> Model for ControlRun<'c> {
 
 impl<'c> ControlRun<'c> {
     ghost use Rattle.std.specs.Prelude.{◌≡◌, ◌++◌, ◌≤◌, All, IsTrue, IfOk, OnErr, length, nat_lt, take};
+    ghost use Rattle.flow_core_laws.specs.Limits.{budget_limit, input_limit};
     ghost use Rattle.os_code.specs.Codes.{parts_of};
     ghost use Rattle.os_code.specs.Tasks.{Fits};
     ghost use Rattle.stream_match_layouts.specs.Lawful.{AreLawful};
@@ -49,8 +50,8 @@ impl<'c> ControlRun<'c> {
         input_len: u32,
         budget: u64,
     ) -> Result<ControlRun<'c>, Memory>
-        requires input { input_len ≤ 4194304 }
-        requires budget { budget ≤ 1000000000 }
+        requires input { input_len ≤ input_limit }
+        requires budget { budget ≤ budget_limit }
         ensures { IfOk result (λ run. run ≡ not_begun (parts_of code.now) input_len budget) }
     {
         let unit = unit_at(code.units.as_slice(), code.main as usize);

@@ -2,6 +2,7 @@
 use Rattle.std.specs.Prelude.{◌≡◌, ℕ, ◌≤◌, All, List, ◌++◌, length, map}
 use Rattle.epoch_run_bodies.specs.Frames.{frame_outcome}
 use Rattle.flow_core_epochs.specs.Epoch.{IsHeld, open_in}
+use Rattle.flow_core_laws.specs.Limits.{budget_limit}
 use Rattle.flow_core_laws.specs.declared.activation.Activation.{Activation}
 use Rattle.os_code.specs.Codes.{parts_of}
 use Rattle.os_code.specs.Tasks.{Fits}
@@ -31,7 +32,7 @@ pub record IsHeldBefore (code : Parts) (activations : List Activation) (input : 
 
 -- activations over an input are laid out, they fit the code, and what is held is that of those before an epoch
 pub record IsOpenEpoch (code : Code) (activations : List Activation) (budget : ℕ) (layout : Layout) (input : List ℕ) (held : Held) : Type 0 where
-  pub small : budget ≤ 1000000000
+  pub small : budget ≤ budget_limit
   pub fit : All (Fits (parts_of code)) activations
   pub lawful : AreLawful (length layout.writers) activations
   pub whole : IsLayout layout

@@ -1,4 +1,5 @@
 ghost use Rattle.std.specs.Prelude.{◌≡◌, ◌≤◌, All, IfOk, length};
+ghost use Rattle.flow_core_laws.specs.Limits.{budget_limit, workers_limit};
 ghost use Rattle.epoch_run_bodies.specs.Frames.{code_ends};
 ghost use Rattle.os_code.specs.Codes.{parts_of};
 ghost use Rattle.os_code.specs.Tasks.{Fits};
@@ -25,8 +26,8 @@ pub(crate) fn run_at_once<R: Threads + Sync, G: Gate>(
     workers: u32,
     gate: &G,
 ) -> Result<Ends, Memory>
-    requires workers { (1 ≤ workers) × (workers ≤ 64) }
-    requires budget { bodies.now.budget ≤ 1000000000 }
+    requires workers { (1 ≤ workers) × (workers ≤ workers_limit) }
+    requires budget { bodies.now.budget ≤ budget_limit }
     requires fit { All (Fits (parts_of bodies.now.code.now)) bodies.now.activations.now }
     requires whole { IsLayout layout.now }
     requires laid { IsLayoutOf layout.now bodies.now.activations.now }

@@ -1,6 +1,7 @@
 ghost use Rattle.std.specs.Prelude.{◌≡◌, ◌≤◌, IfOk, List, OnOk, length, nat_lt};
 ghost use denote.Param.Send.{IsSync};
 ghost use Rattle.control_run.specs.Stretches.{RunSoFar, remaining};
+ghost use Rattle.flow_core_laws.specs.Limits.{workers_limit};
 ghost use Rattle.flow_core_laws.specs.declared.activation.Activation.{Activation};
 ghost use Rattle.os_code.specs.Codes.{parts_of};
 ghost use Rattle.stream_match_layouts.specs.Layout.{TakesMore};
@@ -38,7 +39,7 @@ pub(crate) fn run_and_advance<R: Threads + Sync, G: Gate>(
     next: &mut List<Activation>,
     size: EpochSize,
 ) -> Result<NextSpans, Memory>
-    requires workers { (1 ≤ workers) × (workers ≤ 64) }
+    requires workers { (1 ≤ workers) × (workers ≤ workers_limit) }
     requires open { IsOpenEpoch bodies.now.code.now (all_of bodies.now) bodies.now.budgets.task layout.now input.now held.old }
     requires there { HaveOpen bodies.now held.old.ends.ends }
     requires some { 1 ≤ size.activations }
@@ -51,7 +52,7 @@ pub(crate) fn run_and_advance<R: Threads + Sync, G: Gate>(
     let new = (bodies.count as usize).saturating_sub(held.ends.ends.len());
     let mut laid = NextSpans::behind(alloc, layout, new)?;
     let mut run = || -> Result<(), Memory>
-        requires { IsSync R.row × IsSync G.row × (1 ≤ workers) × (workers ≤ 64)
+        requires { IsSync R.row × IsSync G.row × (1 ≤ workers) × (workers ≤ workers_limit)
             × IsOpenEpoch bodies.now.code.now (all_of bodies.now) bodies.now.budgets.task layout.now input.now held.now
             × HaveOpen bodies.now held.now.ends.ends }
         ensures { OnOk result (IsHeldOf (parts_of bodies.entry.now.code.now) (all_of bodies.entry.now) input.entry.now

@@ -1,5 +1,6 @@
 ghost use Rattle.std.specs.Prelude.{◌≡◌, [], ◌+◌, ◌^◌, ◌<◌, ◌≤◌, All, IfOk, OnOk, length, map, nat_lt, slice_index};
 ghost use Rattle.std.specs.List.{flat_map};
+ghost use Rattle.flow_core_laws.specs.Limits.{workers_limit};
 ghost use Rattle.flow_core_laws.specs.IsSound.{IsSound};
 ghost use Rattle.flow_core_laws.specs.Outcome.{ends_of};
 ghost use Rattle.flow_core_laws.specs.Plans.{sink_elements};
@@ -47,7 +48,7 @@ pub(crate) fn run_epoch<R: Threads + Sync, G: Gate>(
     gate: &G,
     held: &mut Held,
 ) -> Result<(), Memory>
-    requires workers { (1 ≤ workers) × (workers ≤ 64) }
+    requires workers { (1 ≤ workers) × (workers ≤ workers_limit) }
     requires open { IsOpenEpoch bodies.now.code.now (all_of bodies.now) bodies.now.budgets.task layout.now input.now held.old }
     requires there { HaveOpen bodies.now held.old.ends.ends }
     ensures { OnOk result (IsHeldOf (parts_of bodies.now.code.now) (all_of bodies.now) input.now bodies.now.budgets.task held.new) }
@@ -77,7 +78,7 @@ fn run_open<R: Threads + Sync, G: Gate>(
     gate: &G,
     held: &mut Held,
 ) -> Result<(), Memory>
-    requires workers { (1 ≤ workers) × (workers ≤ 64) }
+    requires workers { (1 ≤ workers) × (workers ≤ workers_limit) }
     requires open { IsOpenEpoch bodies.now.code.now (all_of bodies.now) bodies.now.budgets.task layout.now input.now held.old }
     requires there { HaveOpen bodies.now held.old.ends.ends }
     ensures { OnOk result (IsHeldOf (parts_of bodies.now.code.now) (all_of bodies.now) input.now bodies.now.budgets.task held.new) }
@@ -156,7 +157,7 @@ fn run_these<R: Threads + Sync, G: Gate>(
     frames: &[u32],
     held: &mut Held,
 ) -> Result<(), Memory>
-    requires workers { (1 ≤ workers) × (workers ≤ 64) }
+    requires workers { (1 ≤ workers) × (workers ≤ workers_limit) }
     requires open { IsOpenEpoch bodies.now.code.now (all_of bodies.now) bodies.now.budgets.task layout.now input.now (listed held.old) }
     requires there { HaveOpen bodies.now held.old.ends.ends }
     requires readers { readers ≡ open_in held.old.ends.ends (frame_count layout.now) }
@@ -232,7 +233,7 @@ fn run_frames<R: Threads + Sync, B: Bodies<Scratch = Scratch>, G: Gate>(
     gate: &G,
     pace: &mut Pace,
 ) -> Result<Ends, Memory>
-    requires workers { (1 ≤ workers) × (workers ≤ 64) }
+    requires workers { (1 ≤ workers) × (workers ≤ workers_limit) }
     requires sound { IsSound plan }
     requires served { Serves plan (λ f. B.outcome bodies.now (slice_index frames.now f))
         (λ f inputs outputs. (f < length frames.now) × B.takes bodies.now (slice_index frames.now f) inputs outputs) }

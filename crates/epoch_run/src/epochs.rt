@@ -1,4 +1,5 @@
 ghost use Rattle.std.specs.Prelude.{◌≡◌, ◌≤◌, All, IfOk, length};
+ghost use Rattle.flow_core_laws.specs.Limits.{input_limit, workers_limit};
 ghost use Rattle.os_code.specs.Codes.{parts_of};
 ghost use Rattle.os_code.specs.Outcomes.{control};
 ghost use Rattle.os_code.specs.Tasks.{Fits};
@@ -39,8 +40,8 @@ pub fn run_epochs<R: Threads + Sync, G: Gate>(
     workers: u32,
     gate: &G,
 ) -> Result<RunResult, Memory>
-    requires workers { (1 ≤ workers) × (workers ≤ 64) }
-    requires input { length input.now ≤ 4194304 }
+    requires workers { (1 ≤ workers) × (workers ≤ workers_limit) }
+    requires input { length input.now ≤ input_limit }
     requires budgets { AreBudgets budgets }
     // the layout of all activations that `main` creates, and how it ended
     ensures layout { IfOk result (λ run. IsLayoutOf run.layout (created (parts_of code.now) input.now budgets)) }
@@ -80,8 +81,8 @@ pub fn run_epochs_of<R: Threads + Sync, G: Gate>(
     gate: &G,
     size: EpochSize,
 ) -> Result<RunResult, Memory>
-    requires workers { (1 ≤ workers) × (workers ≤ 64) }
-    requires input { length input.now ≤ 4194304 }
+    requires workers { (1 ≤ workers) × (workers ≤ workers_limit) }
+    requires input { length input.now ≤ input_limit }
     requires budgets { AreBudgets budgets }
     requires some { 1 ≤ size.activations }
     // the layout of all activations that `main` creates, and how it ended
@@ -122,8 +123,8 @@ fn run_by<R: Threads + Sync, G: Gate>(
     size: EpochSize,
     way: Way,
 ) -> Result<RunResult, Memory>
-    requires workers { (1 ≤ workers) × (workers ≤ 64) }
-    requires input { length input.now ≤ 4194304 }
+    requires workers { (1 ≤ workers) × (workers ≤ workers_limit) }
+    requires input { length input.now ≤ input_limit }
     requires budgets { AreBudgets budgets }
     requires some { 1 ≤ size.activations }
     // the layout of all activations that `main` creates, and how it ended

@@ -6,6 +6,7 @@ ghost use Rattle.epoch_run_bodies.specs.Frames.{frame_outcome};
 ghost use Rattle.epoch_run_in_order.specs.Standing.{IsReady, StandsBehind, meaning_in};
 ghost use Rattle.epoch_run_in_order_laws.specs.InOrder.{HaveAllEnded};
 ghost use Rattle.flow_core_epochs.specs.Epoch.{IsHeld};
+ghost use Rattle.flow_core_laws.specs.Limits.{input_limit};
 ghost use Rattle.flow_core_laws.specs.declared.activation.Activation.{Activation};
 ghost use Rattle.os_code.specs.Codes.{parts_of};
 ghost use Rattle.os_code.specs.Outcomes.{control};
@@ -55,7 +56,7 @@ pub(crate) fn run_in_order<'c, R: Threads + Sync, G: Gate>(
     workers: u32,
     gate: &G,
 ) -> Result<Option<ControlEnd>, Memory>
-    requires input { length input.now ≤ 4194304 }
+    requires input { length input.now ≤ input_limit }
     requires budgets { AreBudgets budgets }
     requires stands { StandsAt code.now input.now budgets run.old }
     requires ran { IsHeldOf (parts_of code.now) (given_by run.old.control) input.now budgets.task run.old.held }
@@ -109,7 +110,7 @@ fn run_on<'c, R: Threads + Sync, G: Gate>(
     workers: u32,
     gate: &G,
 ) -> Result<(), Memory>
-    requires input { length input.now ≤ 4194304 }
+    requires input { length input.now ≤ input_limit }
     requires budgets { AreBudgets budgets }
     requires ran { HaveRunInOrder code.now input.now budgets run.old order.old }
     ensures goes { OnOk result (GoesInOrder code.now input.now budgets run.new order.new) }

@@ -1,4 +1,5 @@
 ghost use Rattle.std.specs.Prelude.{◌≡◌, ◌≤◌, IfOk, max};
+ghost use Rattle.flow_core_laws.specs.Limits.{workers_limit};
 ghost use Rattle.flow_core_laws.specs.IsSound.{IsSound};
 ghost use Rattle.flow_core_laws.specs.Outcome.{ends_of};
 ghost use Rattle.flow_core_laws.specs.Plans.{plan_meaning, sink_elements};
@@ -37,7 +38,7 @@ pub(crate) fn run_plan<R: Threads + Sync, B: Bodies, G: Gate>(
     gate: &G,
     pace: Pace,
 ) -> Result<Ends, Memory>
-    requires workers { (1 ≤ workers) × (workers ≤ 64) }
+    requires workers { (1 ≤ workers) × (workers ≤ workers_limit) }
     requires sound { IsSound plan.now }
     requires served { Serves plan.now (B.outcome bodies.now) (B.takes bodies.now) }
     ensures ends { IfOk result (λ e. e.ends ≡ ends_of (plan_meaning plan.now (B.outcome bodies.now))) }

@@ -1,6 +1,7 @@
 //! The shares of a run, each of which a thread runs.
 
 ghost use Rattle.std.specs.Prelude.{◌≡◌, ◌≤◌, ℕ, List, true, IfOk, IfSome, OnOk, length};
+ghost use Rattle.flow_core_laws.specs.Limits.{input_limit};
 ghost use denote.Param.Send.{IsSync};
 ghost use Rattle.control_run.specs.Stretches.{given_by, whole};
 ghost use Rattle.os_code.specs.Codes.{parts_of};
@@ -36,7 +37,7 @@ pub(crate) fn run_shares<R: Threads + Sync>(
     borders: Borders,
     number: u32,
 ) -> Result<(), Memory>
-    requires input { length input.now ≤ 4194304 }
+    requires input { length input.now ≤ input_limit }
     requires budgets { AreBudgets budgets }
     requires ran { HaveRunInOrder code.now input.now budgets run.old order.old }
     ensures shared { OnOk result (AreSharedOut code.now input.now budgets run.new.control run.new.layout order.new) }
@@ -47,12 +48,12 @@ pub(crate) fn run_shares<R: Threads + Sync>(
     }
     let mut share: Option<Apart> = None;
     let mut own = || -> Result<(), Memory>
-        requires { (length input.now ≤ 4194304) × AreBudgets budgets }
+        requires { (length input.now ≤ input_limit) × AreBudgets budgets }
         ensures { OnOk result (IfSome share.exit (λ apart. IsReady code.entry.now apart.order
             × IsShare (parts_of code.entry.now) input.entry.now budgets.control budgets.task apart)) }
     { set_share(alloc, code, input, budgets, borders, number, &mut share) };
     let mut others = || -> Result<(), Memory>
-        requires { IsSync R.row × (1 ≤ number) × (length input.now ≤ 4194304) × AreBudgets budgets
+        requires { IsSync R.row × (1 ≤ number) × (length input.now ≤ input_limit) × AreBudgets budgets
             × HaveRunInOrder code.now input.now budgets run.now order.now }
         ensures { OnOk result (AreSharedOut code.entry.now input.entry.now budgets run.exit.now.control run.exit.now.layout order.exit.now
             × (length order.entry.now.ends ≤ length order.exit.now.ends)) }
@@ -86,7 +87,7 @@ fn set_share(
     number: u32,
     share: &mut Option<Apart>,
 ) -> Result<(), Memory>
-    requires input { length input.now ≤ 4194304 }
+    requires input { length input.now ≤ input_limit }
     requires budgets { AreBudgets budgets }
     ensures share { OnOk result (IfSome share.new (λ apart. IsReady code.now apart.order
         × IsShare (parts_of code.now) input.now budgets.control budgets.task apart)) }
@@ -105,7 +106,7 @@ fn run_numbered(
     borders: Borders,
     number: u32,
 ) -> Result<Apart, Memory>
-    requires input { length input.now ≤ 4194304 }
+    requires input { length input.now ≤ input_limit }
     requires budgets { AreBudgets budgets }
     ensures ready { IfOk result (λ apart. IsReady code.now apart.order) }
     ensures share { IfOk result (λ apart. IsShare (parts_of code.now) input.now budgets.control budgets.task apart) }
@@ -131,7 +132,7 @@ fn lead(
     budgets: Budgets,
     borders: Borders,
 ) -> Result<(), Memory>
-    requires input { length input.now ≤ 4194304 }
+    requires input { length input.now ≤ input_limit }
     requires budgets { AreBudgets budgets }
     requires ran { HaveRunInOrder code.now input.now budgets run.old order.old }
     ensures shared { OnOk result (AreSharedOut code.now input.now budgets run.new.control run.new.layout order.new) }

@@ -1,6 +1,7 @@
 //! Sharing a run in control order out among several workers.
 
 ghost use Rattle.std.specs.Prelude.{◌≡◌, ◌≤◌, ℕ, List, [], false, true, IfOk, OnOk, length};
+ghost use Rattle.flow_core_laws.specs.Limits.{input_limit};
 ghost use Rattle.control_run.specs.Stretches.{given_by, whole};
 ghost use Rattle.os_code.specs.Codes.{parts_of};
 ghost use Rattle.os_code.specs.declared.code.Code.{Code};
@@ -39,7 +40,7 @@ pub(crate) fn share_out<'c, R: Threads + Sync>(
     budgets: Budgets,
     workers: u32,
 ) -> Result<bool, Memory>
-    requires input { length input.now ≤ 4194304 }
+    requires input { length input.now ≤ input_limit }
     requires budgets { AreBudgets budgets }
     requires ran { HaveRunInOrder code.now input.now budgets run.old order.old }
     ensures goes { IfOk result (λ all. all ≡ true → GoesInOrder code.now input.now budgets run.new order.new) }
@@ -87,7 +88,7 @@ fn runs_apart(
     budgets: Budgets,
     first: u32,
 ) -> Result<bool, Memory>
-    requires input { length input.now ≤ 4194304 }
+    requires input { length input.now ≤ input_limit }
     requires budgets { AreBudgets budgets }
 {
     let end = first.saturating_add(TRIED);
@@ -114,7 +115,7 @@ fn take_up<'c>(
     input: &[u8],
     budgets: Budgets,
 ) -> Result<bool, Memory>
-    requires input { length input.now ≤ 4194304 }
+    requires input { length input.now ≤ input_limit }
     requires budgets { AreBudgets budgets }
     requires shared { AreSharedOut code.now input.now budgets run.old.control run.old.layout order.now }
     ensures goes { IfOk result (λ all. all ≡ true → GoesInOrder code.now input.now budgets run.new order.now) }
@@ -140,7 +141,7 @@ fn create_anew<'c>(
     budgets: Budgets,
     count: u32,
 ) -> Result<(), Memory>
-    requires input { length input.now ≤ 4194304 }
+    requires input { length input.now ≤ input_limit }
     requires budgets { AreBudgets budgets }
     requires within { count ≤ length (created (parts_of code.now) input.now budgets) }
     ensures laid { OnOk result (AreLaidOut code.now input.now budgets run.new.control run.new.layout) }

@@ -1,5 +1,6 @@
 ghost use Rattle.std.specs.Prelude.{◌≡◌, ◌<◌, ◌≤◌, ℕ, List, [], None, IfOk, IfSome, IsTrue, OnOk, length, true};
 ghost use Rattle.control_run.specs.Stretches.{given_by};
+ghost use Rattle.flow_core_laws.specs.Limits.{activations_limit, input_limit, workers_limit};
 ghost use Rattle.flow_core_laws.specs.declared.activation.Activation.{Activation};
 ghost use Rattle.os_code.specs.Codes.{parts_of};
 ghost use Rattle.os_code.specs.declared.code.Code.{Code};
@@ -60,7 +61,7 @@ impl<'c> Standing<'c> {
         input: &[u8],
         budgets: Budgets,
     ) -> Result<Standing<'c>, Memory>
-        requires input { length input.now ≤ 4194304 }
+        requires input { length input.now ≤ input_limit }
         requires budgets { AreBudgets budgets }
         ensures { IfOk result (λ run. StandsAt code.now input.now budgets run) }
     {
@@ -103,8 +104,8 @@ impl<'c> Standing<'c> {
         size: EpochSize,
         way: Way,
     ) -> Result<Option<ControlEnd>, Memory>
-        requires workers { (1 ≤ workers) × (workers ≤ 64) }
-        requires input { length input.now ≤ 4194304 }
+        requires workers { (1 ≤ workers) × (workers ≤ workers_limit) }
+        requires input { length input.now ≤ input_limit }
         requires budgets { AreBudgets budgets }
         requires stands { StandsAt code.now input.now budgets self.old }
         requires some { 1 ≤ size.activations }
@@ -145,8 +146,8 @@ impl<'c> Standing<'c> {
         gate: &G,
         size: EpochSize,
     ) -> Result<Option<ControlEnd>, Memory>
-        requires workers { (1 ≤ workers) × (workers ≤ 64) }
-        requires input { length input.now ≤ 4194304 }
+        requires workers { (1 ≤ workers) × (workers ≤ workers_limit) }
+        requires input { length input.now ≤ input_limit }
         requires budgets { AreBudgets budgets }
         requires stands { StandsAt code.now input.now budgets self.old }
         requires some { 1 ≤ size.activations }
@@ -174,7 +175,7 @@ impl<'c> Standing<'c> {
         gate: &G,
         size: EpochSize,
     ) -> Result<Option<ControlEnd>, Memory>
-        requires workers { (1 ≤ workers) × (workers ≤ 64) }
+        requires workers { (1 ≤ workers) × (workers ≤ workers_limit) }
         requires budgets { AreBudgets budgets }
         requires stands { StandsAt code.now input.now budgets self.old }
         requires some { 1 ≤ size.activations }
@@ -200,7 +201,7 @@ impl<'c> Standing<'c> {
         gate: &G,
         size: EpochSize,
     ) -> Result<(), Memory>
-        requires workers { (1 ≤ workers) × (workers ≤ 64) }
+        requires workers { (1 ≤ workers) × (workers ≤ workers_limit) }
         requires budgets { AreBudgets budgets }
         requires stands { StandsAt code.now input.now budgets self.old }
         requires some { 1 ≤ size.activations }
@@ -226,7 +227,7 @@ impl<'c> Standing<'c> {
         gate: &G,
         size: EpochSize,
     ) -> Result<(), Memory>
-        requires workers { (1 ≤ workers) × (workers ≤ 64) }
+        requires workers { (1 ≤ workers) × (workers ≤ workers_limit) }
         requires budgets { AreBudgets budgets }
         requires stands { StandsAt code.now input.now budgets self.old }
         requires some { 1 ≤ size.activations }
@@ -256,7 +257,7 @@ impl<'c> Standing<'c> {
         gate: &G,
         size: EpochSize,
     ) -> Result<(), Memory>
-        requires workers { (1 ≤ workers) × (workers ≤ 64) }
+        requires workers { (1 ≤ workers) × (workers ≤ workers_limit) }
         requires budgets { AreBudgets budgets }
         requires stands { StandsAt code.now input.now budgets self.old }
         requires some { 1 ≤ size.activations }
@@ -292,7 +293,7 @@ impl<'c> Standing<'c> {
         next: &mut List<Activation>,
         size: EpochSize,
     ) -> Result<NextSpans, Memory>
-        requires workers { (1 ≤ workers) × (workers ≤ 64) }
+        requires workers { (1 ≤ workers) × (workers ≤ workers_limit) }
         requires budgets { AreBudgets budgets }
         requires stands { StandsAt code.now input.now budgets self.old }
         requires some { 1 ≤ size.activations }
@@ -339,7 +340,7 @@ impl<'c> Standing<'c> {
         workers: u32,
         gate: &G,
     ) -> Result<(), Memory>
-        requires workers { (1 ≤ workers) × (workers ≤ 64) }
+        requires workers { (1 ≤ workers) × (workers ≤ workers_limit) }
         requires budgets { AreBudgets budgets }
         requires stands { StandsAt code.now input.now budgets self.old }
         ensures run { OnOk result (HasRun code.now input.now budgets (given_by self.old.control) self.new) }
@@ -369,7 +370,7 @@ impl<'c> Standing<'c> {
 
     /// Gives up the activations of the list, where each of them has an end: the next ones are made in their lists.
     fn give_up_ended(&mut self, alloc: Global)
-        requires { length self.old.held.ends.ends ≤ 65536 }
+        requires { length self.old.held.ends.ends ≤ activations_limit }
         ensures run { (code : Code) (input : List ℕ) (budgets : Budgets) (given : List Activation) → HasRun code input budgets given self.old
             → HasRun code input budgets given self.new }
         ensures same { self.new ≡ record self.old { activations = self.new.activations; first = self.new.first } }
@@ -392,7 +393,7 @@ impl<'c> Standing<'c> {
         workers: u32,
         gate: &G,
     ) -> Result<(), Memory>
-        requires workers { (1 ≤ workers) × (workers ≤ 64) }
+        requires workers { (1 ≤ workers) × (workers ≤ workers_limit) }
         requires budgets { AreBudgets budgets }
         requires stands { StandsAt code.now input.now budgets self.old }
         ensures layout { OnOk result (IsLayoutOf self.new.layout (given_by self.old.control)) }
@@ -434,7 +435,7 @@ impl<'c> Standing<'c> {
         workers: u32,
         gate: &G,
     ) -> Result<(), Memory>
-        requires workers { (1 ≤ workers) × (workers ≤ 64) }
+        requires workers { (1 ≤ workers) × (workers ≤ workers_limit) }
         requires budgets { AreBudgets budgets }
         requires stands { StandsAt code.now input.now budgets self.old }
         requires all { self.old.first ≡ 0 }
@@ -464,7 +465,7 @@ impl<'c> Standing<'c> {
         workers: u32,
         gate: &G,
     ) -> Result<(), Memory>
-        requires workers { (1 ≤ workers) × (workers ≤ 64) }
+        requires workers { (1 ≤ workers) × (workers ≤ workers_limit) }
         requires budgets { AreBudgets budgets }
         requires stands { StandsAt code.now input.now budgets self.old }
         ensures layout { OnOk result (IsLayoutOf self.new.layout (given_by self.old.control)) }

@@ -1,6 +1,7 @@
 -- What a frame's body makes of its inputs, and which frames are taken.
 use Rattle.std.specs.Prelude.{◌≡◌, ℕ, ℤ, ◌≤◌, List, Some, slice_get}
 use Rattle.std.specs.Option.{option_map_or}
+use Rattle.flow_core_laws.specs.Limits.{budget_limit}
 use Rattle.flow_core_laws.specs.Streams.{output_count, stream_ends, stream_meaning}
 use Rattle.flow_core_laws.specs.declared.activation.Activation.{Activation}
 use Rattle.flow_core_laws.specs.declared.ends.Ends.{Ends}
@@ -21,7 +22,7 @@ code_ends code activations input budget =
 
 -- A frame is taken with so many inputs and outputs where its activation is there, fits the code and has as many.
 pub record TakesFrame (code : Parts) (activations : List Activation) (budget frame inputs outputs : ℕ) : Type 0 where
-  pub small : budget ≤ 1000000000
+  pub small : budget ≤ budget_limit
   pub activation : Activation
   pub is_there : slice_get activations frame ≡ Some activation
   pub fits : Fits code activation

@@ -1,6 +1,7 @@
 -- The laws of bodies, as statements.
 use Rattle.std.specs.Prelude.{◌≡◌, ℕ, ℤ, ◌≤◌, All, List, ◌++◌, Some, length, slice_get}
 use Rattle.flow_core_epochs.specs.Epoch.{ServesAll}
+use Rattle.flow_core_laws.specs.Limits.{budget_limit}
 use Rattle.flow_core_laws.specs.Serves.{Serves}
 use Rattle.flow_core_laws.specs.StandsFor.{StandsFor}
 use Rattle.flow_core_laws.specs.Streams.{stream_meaning}
@@ -15,11 +16,11 @@ use Rattle.epoch_run_bodies.specs.Frames.{TakesFrame, frame_outcome}
 -- the bodies of activations that fit a valid code serve each plan that stands for the activations
 abbrev pub BodiesServe : Type 0
 BodiesServe = (code : Parts) (activations : List Activation) (input : List ℕ) (budget : ℕ) (plan : Plan) → IsValid code → All (Fits code) activations
-    → budget ≤ 1000000000 → StandsFor plan activations input → Serves plan (frame_outcome code activations budget) (TakesFrame code activations budget)
+    → budget ≤ budget_limit → StandsFor plan activations input → Serves plan (frame_outcome code activations budget) (TakesFrame code activations budget)
 
 -- they serve all activations of a run in parts
 abbrev pub BodiesServeAll : Type 0
-BodiesServeAll = (code : Parts) (activations : List Activation) (budget : ℕ) → IsValid code → All (Fits code) activations → budget ≤ 1000000000
+BodiesServeAll = (code : Parts) (activations : List Activation) (budget : ℕ) → IsValid code → All (Fits code) activations → budget ≤ budget_limit
     → ServesAll activations (frame_outcome code activations budget) (TakesFrame code activations budget)
 
 -- two bodies make the same of all inputs of each activation

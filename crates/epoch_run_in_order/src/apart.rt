@@ -2,6 +2,7 @@
 
 ghost use Rattle.std.specs.Prelude.{◌≡◌, ◌∷◌, ◌++◌, ◌+◌, ◌<◌, ◌≤◌, ℕ, [], All, IfOk, List, OnOk, Some, false, length, map, slice_get, true};
 ghost use Rattle.std.specs.List.{range_with_len};
+ghost use Rattle.flow_core_laws.specs.Limits.{budget_limit};
 ghost use Rattle.flow_core_laws.specs.Place.{written_count};
 ghost use Rattle.flow_core_laws.specs.Window.{windows_of};
 ghost use Rattle.flow_core_laws.specs.declared.activation.Activation.{Activation};
@@ -69,7 +70,7 @@ impl Apart {
         budget: u64,
     ) -> Result<bool, Memory>
         requires fits { Fits (parts_of code.now) activation.now }
-        requires budget { budget ≤ 1000000000 }
+        requires budget { budget ≤ budget_limit }
         requires ready { IsReady code.now self.old.order }
         requires next { AreNext (self.old.first + length self.old.order.ends) activation.now spans.now }
         requires exist { All (λ (s : Span). s.stream < code.now.streams) spans.now }

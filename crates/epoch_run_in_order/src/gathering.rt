@@ -1,8 +1,7 @@
 //! Gathering what the next activation reads.
 
 ghost use Rattle.std.specs.Prelude.{◌≡◌, ◌∷◌, ◌++◌, ◌+◌, ◌^◌, ◌<◌, ◌≤◌, [], ℕ, All, IfOk, IfSome, List, OnOk, Option};
-ghost use Rattle.std.specs.Prelude.{length, map, min, pos, sum_by, take, true, vec_len};
-ghost use Rattle.std.specs.Option.{option_map_or};
+ghost use Rattle.std.specs.Prelude.{length, map, pos, sum_by, take, true, vec_len};
 ghost use Rattle.flow_core_laws.specs.declared.elem.Elem.{Elem};
 ghost use Rattle.stream_match_layouts.specs.Spans.{write_count};
 ghost use Rattle.stream_match_layouts.specs.declared.span.Span.{Span};
@@ -12,7 +11,7 @@ ghost use Rattle.epoch_run_in_order.specs.declared.streams.Streams.{Streams};
 
 use crate::inputs::Inputs;
 use crate::streams::Streams;
-use flow_core_laws::Elem;
+use flow_core_laws::{Elem, lesser};
 use os_io::Memory;
 use stream_match_layouts::Span;
 
@@ -191,15 +190,5 @@ fn put_bytes(places: &mut [i32], first: usize, bytes: &[u8])
 {
     for number in 0..bytes.len() {
         places[first + number] = i32::from(bytes[number]);
-    }
-}
-
-/// The lesser of a root and those before it, of which there may be none.
-fn lesser(least: Option<u32>, root: u32) -> u32
-    ensures { result ≡ option_map_or (λ before. min before root) least root }
-{
-    match least {
-        Some(least) => least.min(root),
-        None => root,
     }
 }

@@ -1,4 +1,5 @@
 ghost use Rattle.std.specs.Prelude.{◌≡◌, ◌+◌, ◌≤◌, ℕ, IfOk, List, OnOk, drop, length, take};
+ghost use Rattle.flow_core_laws.specs.Limits.{budget_limit};
 ghost use Rattle.flow_core_laws.specs.declared.activation.Activation.{Activation};
 ghost use Rattle.os_code.specs.Codes.{parts_of};
 ghost use Rattle.os_code.specs.declared.code.Code.{Code};
@@ -57,7 +58,7 @@ impl InOrder {
         most_steps: u64,
         gate: &G,
     ) -> Result<usize, Memory>
-        requires budget { budget ≤ 1000000000 }
+        requires budget { budget ≤ budget_limit }
         requires ready { IsReady code.now self.old }
         requires last { AreLast code.now layout.now (length self.old.ends) activations.now }
         ensures ready { OnOk result (IsReady code.now self.new) }

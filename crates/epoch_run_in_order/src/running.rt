@@ -1,6 +1,7 @@
 //! Running the next activation.
 
 ghost use Rattle.std.specs.Prelude.{◌≡◌, ◌∷◌, ◌++◌, ◌+◌, ◌^◌, ◌<◌, ◌≤◌, ℕ, [], All, IfOk, List, None, OnOk, Some, false, length, map, slice_get, true};
+ghost use Rattle.flow_core_laws.specs.Limits.{budget_limit};
 ghost use Rattle.flow_core_laws.specs.Poisoning.{least_root, values_of};
 ghost use Rattle.flow_core_laws.specs.Streams.{output_count};
 ghost use Rattle.flow_core_laws.specs.Window.{windows_of};
@@ -36,7 +37,7 @@ impl InOrder {
         budget: u64,
     ) -> Result<bool, Memory>
         requires fits { Fits (parts_of code.now) activation.now }
-        requires budget { budget ≤ 1000000000 }
+        requires budget { budget ≤ budget_limit }
         requires ready { IsReady code.now self.old }
         requires next { AreNext number activation.now spans.now }
         requires exist { All (λ (s : Span). s.stream < code.now.streams) spans.now }
@@ -89,7 +90,7 @@ fn end_of(
     budget: u64,
 ) -> Result<TaskEnd, Memory>
     requires fits { Fits (parts_of code.now) activation.now }
-    requires budget { budget ≤ 1000000000 }
+    requires budget { budget ≤ budget_limit }
     requires made { IsMadeFor (parts_of code.now) scratch.old }
     requires inputs { inputs.now.root ≡ None → length (values_in inputs.now) ≡ input_count activation.now }
     requires count { count ≡ output_count activation.now }

@@ -1,6 +1,7 @@
 //! Running the activations of a share, one by one.
 
 ghost use Rattle.std.specs.Prelude.{◌≡◌, ◌∷◌, ◌++◌, ◌≤◌, [], IfOk, List, OnOk, false, true};
+ghost use Rattle.flow_core_laws.specs.Limits.{budget_limit};
 ghost use Rattle.flow_core_laws.specs.declared.activation.Activation.{Activation};
 ghost use Rattle.epoch_run_shares.specs.Positions.{HavePassed};
 ghost use Rattle.epoch_run_shares.specs.Running.{HaveRun, HaveRunSome, MayRun};
@@ -24,7 +25,7 @@ pub(crate) fn run_all(
     budget: u64,
     latest: u32,
 ) -> Result<bool, Memory>
-    requires budget { budget ≤ 1000000000 }
+    requires budget { budget ≤ budget_limit }
     requires next { MayRun code.now activations.now positions.old apart.old }
     ensures ran { IfOk result (HaveRunSome code.now activations.now input.now budget positions.old apart.old apart.new) }
     ensures passed { IfOk result (λ goes_on. goes_on ≡ true → (before : List Activation) → HavePassed code.now.streams before positions.old
@@ -53,7 +54,7 @@ fn run_next(
     budget: u64,
     latest: u32,
 ) -> Result<bool, Memory>
-    requires budget { budget ≤ 1000000000 }
+    requires budget { budget ≤ budget_limit }
     requires next { MayRun code.now (activation.now ∷ []) positions.old apart.old }
     ensures went { IfOk result (λ goes_on. goes_on ≡ true
         → HaveRun code.now (activation.now ∷ []) input.now budget positions.old apart.old apart.new) }

@@ -1,6 +1,7 @@
 //! A worker's share of a run.
 
 ghost use Rattle.std.specs.Prelude.{◌≡◌, ◌+◌, ◌≤◌, IfOk, OnOk, length, true};
+ghost use Rattle.flow_core_laws.specs.Limits.{budget_limit, input_limit};
 ghost use Rattle.os_code.specs.Codes.{parts_of};
 ghost use Rattle.epoch_run_in_order.specs.Standing.{IsReady};
 ghost use Rattle.epoch_run_shares.specs.Running.{Stands, StandsWithin};
@@ -30,8 +31,8 @@ pub fn run_share(
     from: u32,
     to: u32,
 ) -> Result<Apart, Memory>
-    requires input { length input.now ≤ 4194304 }
-    requires budgets { (control_budget ≤ 1000000000) × (task_budget ≤ 1000000000) }
+    requires input { length input.now ≤ input_limit }
+    requires budgets { (control_budget ≤ budget_limit) × (task_budget ≤ budget_limit) }
     ensures ready { IfOk result (λ apart. IsReady code.now apart.order) }
     ensures share { IfOk result (λ apart. IsShare (parts_of code.now) input.now control_budget task_budget apart) }
 {
@@ -68,7 +69,7 @@ fn run_stretches(
     latest: u32,
     to: u32,
 ) -> Result<(), Memory>
-    requires budget { budget ≤ 1000000000 }
+    requires budget { budget ≤ budget_limit }
     requires stands { Stands code.now input.now budget walk.old apart.old }
     ensures { OnOk result (StandsWithin code.now input.now budget walk.old.control apart.new) }
 {
@@ -94,7 +95,7 @@ fn run_stretch(
     at_most: u32,
 ) -> Result<bool, Memory>
     requires some { 1 ≤ at_most }
-    requires budget { budget ≤ 1000000000 }
+    requires budget { budget ≤ budget_limit }
     requires stands { Stands code.now input.now budget walk.old apart.old }
     ensures within { OnOk result (StandsWithin code.now input.now budget walk.old.control apart.new) }
     ensures stands { IfOk result (λ goes_on. goes_on ≡ true → Stands code.now input.now budget walk.new apart.new) }

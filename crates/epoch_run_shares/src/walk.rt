@@ -1,6 +1,7 @@
 //! A walk over the control program, stretch by stretch.
 
 ghost use Rattle.std.specs.Prelude.{◌≡◌, ◌+◌, ◌≤◌, IfOk, OnOk, false};
+ghost use Rattle.flow_core_laws.specs.Limits.{budget_limit, input_limit};
 ghost use Rattle.control_run.specs.Stretches.{not_begun};
 ghost use Rattle.os_code.specs.Codes.{parts_of};
 ghost use Rattle.epoch_run_shares.specs.Walk.{HasGiven, HasWalked, IsSameRun};
@@ -32,8 +33,8 @@ impl<'c> Walk<'c> {
         input_len: u32,
         budget: u64,
     ) -> Result<Walk<'c>, Memory>
-        requires input { input_len ≤ 4194304 }
-        requires budget { budget ≤ 1000000000 }
+        requires input { input_len ≤ input_limit }
+        requires budget { budget ≤ budget_limit }
         ensures run { IfOk result (λ walk. walk.control ≡ not_begun (parts_of code.now) input_len budget) }
         ensures walked { IfOk result HasWalked }
     {

@@ -7,19 +7,8 @@ ghost use Rattle.flow_core_laws.specs.Poisoning.{values_of, least_root};
 ghost use Rattle.flow_core.specs.Counted.{HasOutputs};
 ghost use Rattle.flow_core.specs.Gathered.{AreGathered};
 
-use flow_core_laws::{Elem, Piece, lesser};
+use flow_core_laws::{Elem, Piece, lesser, output_at};
 use os_io::Memory;
-
-/// The output element at a place: poison with a root, where there is one; else the value that was written.
-fn output(root: Option<u32>, outputs: &[i32], place: usize) -> Elem
-    requires { root ≡ None → place < length outputs.now }
-    ensures { output_element root outputs.now place ≡ Some result }
-{
-    match root {
-        Some(root) => Elem::Poison(root),
-        None => Elem::Value(outputs[place]),
-    }
-}
 
 /// Puts the elements of a piece into its cells.
 pub(crate) fn fill(cells: &mut Vec<Option<Elem>>, piece: Piece, root: Option<u32>, outputs: &[i32])
@@ -35,7 +24,7 @@ pub(crate) fn fill(cells: &mut Vec<Option<Elem>>, piece: Piece, root: Option<u32
     let first = piece.first as usize;
     let at = piece.at as usize;
     for k in 0..piece.count as usize {
-        cells[at + k] = Some(output(root, outputs, first + k));
+        cells[at + k] = Some(output_at(root, outputs, first + k));
     }
 }
 

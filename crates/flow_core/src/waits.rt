@@ -1,4 +1,5 @@
 ghost use Rattle.std.specs.Prelude.{◌≡◌, [], ◌∷◌, ◌++◌, ◌-◌, ◌<◌, ◌≤◌, OnOk, length, slice_index, slice_set};
+ghost use Rattle.flow_core_laws.specs.Limits.{activations_limit};
 ghost use Rattle.flow_core.specs.Waits.{OpensFull, OpensMore};
 
 use os_io::Memory;
@@ -25,7 +26,7 @@ impl Waits {
 
     /// Adds the next frame, with the number of elements that it misses.
     pub(crate) fn add(&mut self, wait: u32) -> Result<(), Memory>
-        requires few { length self.old.missing.items < 65536 }
+        requires few { length self.old.missing.items < activations_limit }
         requires full { OpensFull self.old }
         ensures added { OnOk result (self.new.missing.items ≡ self.old.missing.items ++ wait ∷ []) }
         ensures full { OnOk result (OpensFull self.new) }

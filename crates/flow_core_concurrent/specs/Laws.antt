@@ -2,7 +2,7 @@
 use Rattle.std.specs.Prelude.{◌≡◌, ℕ, ℤ, ◌+◌, ◌<◌, ◌≤◌, true, false, List, Some, None, IsSome, All, is_some, length, map, sum_by, slice_get, ⊤}
 use Rattle.std.specs.Option.{option_map}
 use Rattle.flow_core_laws.specs.declared.plan.Piece.{Piece}
-use Rattle.flow_core_laws.specs.Outcome.{outcome_at, State}
+use Rattle.flow_core_laws.specs.Outcome.{outcome_at, State, IsTrapCode}
 use Rattle.flow_core_laws.specs.Round.{IsEnabled, gathered, inputs_in}
 use Rattle.flow_core_laws.specs.Laws.{Reached}
 use Rattle.flow_core_concurrent.specs.declared.view.FrameRun.{FrameRun}
@@ -37,7 +37,7 @@ pub record IsFit (known : Known) : Type 0 where
       → length o.outputs ≡ (frame_at known.plan f).outputs
   pub traps_have_codes : (f : ℕ) (o : Outcome) (code line : ℕ) → f < length known.plan.frames → outcome_at known.meaning f ≡ Some o
       → o.end ≡ Trapped code line
-      → (1 ≤ code) × (code ≤ 8)
+      → IsTrapCode code
 
 -- The meaning is that of the plan under bodies with this outcome.
 abbrev pub IsMeant : Known → (ℕ → List ℤ → Outcome) → Type 0

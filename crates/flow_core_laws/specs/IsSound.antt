@@ -1,5 +1,6 @@
 -- Sound plans.
 use Rattle.std.specs.Prelude.{◌≡◌, ℕ, ◌+◌, ◌≤◌, ◌<◌, ◌↔◌, None, Some, slice_get, sum_by, length}
+use Rattle.flow_core_laws.specs.Limits.{activations_limit, positions_limit}
 use Rattle.flow_core_laws.specs.declared.plan.FramePlan.{FramePlan}
 use Rattle.flow_core_laws.specs.declared.plan.Piece.{Piece}
 use Rattle.flow_core_laws.specs.declared.plan.Plan.{Plan}
@@ -26,10 +27,10 @@ pub record IsSoundPiece (plan : Plan) (p : Piece) : Type 0 where
 -- to the sink, whose number is the count of the others.
 pub record IsSound (plan : Plan) : Type 0 where
   -- the limits
-  pub frames_are_few : length plan.frames ≤ 65536
-  pub cells_are_few : length plan.filled ≤ 4194304
-  pub outputs_are_few : (f : ℕ) → f ≤ length plan.frames → (frame_at plan f).outputs ≤ 4194304
-  pub all_outputs_are_few : sum_by (λ (p : FramePlan). p.outputs) plan.frames ≤ 4194304
+  pub frames_are_few : length plan.frames ≤ activations_limit
+  pub cells_are_few : length plan.filled ≤ positions_limit
+  pub outputs_are_few : (f : ℕ) → f ≤ length plan.frames → (frame_at plan f).outputs ≤ positions_limit
+  pub all_outputs_are_few : sum_by (λ (p : FramePlan). p.outputs) plan.frames ≤ positions_limit
   -- each frame has the number of its activation, in order
   pub numbers_are_of_frames : length plan.numbers ≡ length plan.frames
   pub numbers_ascend : (f g : ℕ) → f < g → g < length plan.frames → number_at plan f < number_at plan g

@@ -1,5 +1,6 @@
--- What a reader believes: how an activation ends, what is there of an element, what an activation makes of poison,
+-- What a reader believes: how large a run may be, how an activation ends, what is there of an element, what an activation makes of poison,
 -- the states of a run,
+pub mod Limits
 pub mod Outcome
 pub mod Byte
 pub mod Element

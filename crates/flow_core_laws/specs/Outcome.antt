@@ -1,5 +1,5 @@
 -- How an activation ends, and the ends that are known so far.
-use Rattle.std.specs.Prelude.{[], ℕ, ℤ, List, Bool, true, false, Option, Some, None, is_some, slice_index_or, map, refl}
+use Rattle.std.specs.Prelude.{◌≤◌, [], ℕ, ℤ, List, Bool, true, false, Option, Some, None, is_some, slice_index_or, map, refl}
 use Rattle.std.specs.Option.{option_map}
 use Rattle.flow_core_laws.specs.declared.task_end.TaskEnd.{TaskEnd}
 use Rattle.flow_core_laws.specs.declared.task_end.TaskEnd.TheVariants.{Done, Trapped, OverBudget, Poisoned}
@@ -29,6 +29,10 @@ abbrev pub root_of : ℕ → TaskEnd → Option ℕ
 root_of number Done = None
 root_of number (Poisoned root) = Some root
 root_of number _ = Some number
+
+-- A trap has a code from 1 to 8.
+abbrev pub IsTrapCode : ℕ → Type 0
+IsTrapCode code = (1 ≤ code) × (code ≤ 8)
 
 -- whether an activation with this end failed itself: it trapped, or used up its turns
 abbrev pub has_failed : TaskEnd → Bool

@@ -2,6 +2,7 @@
 use Rattle.std.specs.Prelude.{◌≡◌, ◌≢◌, ℕ, ℤ, ◌<◌, ◌≤◌, List, length}
 use Rattle.flow_core_laws.specs.declared.plan.Plan.{Plan}
 use Rattle.flow_core_laws.specs.declared.task_end.TaskEnd.TheVariants.{Done, Trapped, Poisoned}
+use Rattle.flow_core_laws.specs.Outcome.{IsTrapCode}
 use Rattle.flow_core_laws.specs.declared.outcome.Outcome.{Outcome}
 use Rattle.flow_core_laws.specs.Plans.{frame_at}
 
@@ -13,6 +14,6 @@ pub record Serves (plan : Plan) (outcome : ℕ → List ℤ → Outcome) (takes 
       → (outcome f inputs).end ≡ Done
       → length (outcome f inputs).outputs ≡ (frame_at plan f).outputs
   pub traps_have_codes : (f : ℕ) (inputs : List ℤ) (code line : ℕ) → f < length plan.frames → length inputs ≡ (frame_at plan f).inputs
-      → (outcome f inputs).end ≡ Trapped code line → (1 ≤ code) × (code ≤ 8)
+      → (outcome f inputs).end ≡ Trapped code line → IsTrapCode code
   pub are_never_poisoned : (f : ℕ) (inputs : List ℤ) (root : ℕ) → f < length plan.frames → length inputs ≡ (frame_at plan f).inputs
       → (outcome f inputs).end ≢ Poisoned root

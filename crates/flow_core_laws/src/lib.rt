@@ -14,7 +14,8 @@
 //!
 //! There are the types that activations, plans and ends are made of, the trait by which a runtime asks
 //! for the bodies of frames, and `laws`: what holds of every meaning, for the proofs of whatever runs one.
-//! Nothing runs here but what looks up a frame, its number, the end of an activation and the root of an end, and the lesser of two roots.
+//! Nothing runs here but what looks up a frame, its number, the end of an activation, the root of an end and an element that it
+//! writes, and the lesser of two roots.
 #![tactic(auto)]
 
 mod activation;
@@ -27,6 +28,7 @@ pub mod laws;
 mod least_root;
 mod limits;
 mod outcome;
+mod output;
 mod plan;
 mod task_end;
 
@@ -37,7 +39,11 @@ pub use control::{Control, ControlEnd};
 pub use elem::Elem;
 pub use ends::Ends;
 pub use least_root::lesser;
-pub use limits::{ACTIVATIONS_LIMIT, HORIZON_LIMIT, MOVE_LIMIT, POSITIONS_LIMIT};
+pub use limits::{
+    ACTIVATIONS_LIMIT, BUDGET_LIMIT, HORIZON_LIMIT, INPUT_LIMIT, MOVE_LIMIT, POSITIONS_LIMIT,
+    WORKERS_LIMIT,
+};
 pub use outcome::Outcome;
+pub use output::output_at;
 pub use plan::{FramePlan, Piece, Plan};
 pub use task_end::TaskEnd;

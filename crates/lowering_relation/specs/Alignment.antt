@@ -1,5 +1,6 @@
 -- The variables of a run beside the declarations of the text and the slots of the machine.
 use Rattle.std.specs.Prelude.{◌≡◌, ⊤, ◌⊎◌, ℕ, ◌+◌, ◌<◌, ◌≤◌, List, [], ◌∷◌, length, get_or, ℤ, pos}
+use Rattle.flow_core_laws.specs.Limits.{horizon_limit}
 use Rattle.cddf_meaning.specs.declared.variable.Binding.{Binding}
 use Rattle.cddf_meaning.specs.declared.variable.Variable.{Variable}
 use Rattle.cddf_meaning.specs.declared.variable.Variable.TheVariants.{Constant, Function, Scalar, Array, Window, Stream, Item}
@@ -41,7 +42,7 @@ Holds has slots (Scalar v) w = (slot : ℕ) × (w ≡ what.Scalar slot) × (slot
 Holds has slots (Array vs) w =
     (first : ℕ) × (w ≡ what.Array first (length vs)) × ((i : ℕ) → i < length vs → slot_at slots (first + i) ≡ slot_at vs i)
 Holds has slots (Window horizon) w =
-    (slot : ℕ) × (w ≡ what.Window slot) × (slot_at slots slot ≡ pos horizon) × (1 ≤ horizon) × (horizon ≤ 65536)
+    (slot : ℕ) × (w ≡ what.Window slot) × (slot_at slots slot ≡ pos horizon) × (1 ≤ horizon) × (horizon ≤ horizon_limit)
 Holds has slots (Stream first count) w = (w ≡ what.Stream first count) × has.streams first count
 Holds has slots (Item item) w = has.item item × ((w ≡ what.Element item) ⊎ (w ≡ what.View item))
 

@@ -1,4 +1,5 @@
 ghost use Rattle.std.specs.Prelude.{◌≡◌, ◌≤◌, ◌⊎◌, length, string_bytes, sum, IfErr, IfOk};
+ghost use Rattle.flow_core_laws.specs.Limits.{input_limit, positions_limit};
 ghost use Rattle.collector.specs.Status.{status as status_of};
 ghost use Rattle.osrun_core_jobs.specs.Jobs.{IsGenWithin, gen_of};
 ghost use Rattle.osrun_core_answer.specs.Gen.{IsRunOfGen, counted_line, four_lines, gen_lines};
@@ -18,7 +19,7 @@ const BUDGET: u64 = 1_000_000;
 
 /// The sum of the values of bytes.
 fn byte_sum(bytes: &[u8]) -> u64
-    requires { length bytes.now ≤ 4194304 }
+    requires { length bytes.now ≤ input_limit }
     ensures { result ≡ sum bytes.now }
 {
     let mut total: u64 = 0;
@@ -30,7 +31,7 @@ fn byte_sum(bytes: &[u8]) -> u64
 
 /// The line that counts bytes, of which there are as many as an input may have.
 fn counted_line(alloc: Global, name: &str, bytes: &[u8]) -> Result<String, Memory>
-    requires { length bytes.now ≤ 4194304 }
+    requires { length bytes.now ≤ input_limit }
     ensures { IfOk result (λ text. string_bytes text ≡ counted_line name.now bytes.now) }
 {
     let text = format!(in alloc; "{name} {} sum {}\n", bytes.len(), byte_sum(bytes))?;
@@ -39,8 +40,8 @@ fn counted_line(alloc: Global, name: &str, bytes: &[u8]) -> Result<String, Memor
 
 /// The four lines of a run over bytes that were made.
 fn lines(alloc: Global, job: &GenJob, input: &[u8], run: &Run) -> Result<String, Memory>
-    requires few_read { length input.now ≤ 4194304 }
-    requires few_written { length run.now.output.items ≤ 4194304 }
+    requires few_read { length input.now ≤ input_limit }
+    requires few_written { length run.now.output.items ≤ positions_limit }
     ensures { IfOk result (λ text. string_bytes text
         ≡ four_lines (gen_of job.now) input.now run.now.output.items (status_of run.now.ends.ends run.now.control)) }
 {

@@ -1,4 +1,5 @@
 ghost use Rattle.std.specs.Prelude.{◌≤◌, IfOk, length};
+ghost use Rattle.flow_core_laws.specs.Limits.{input_limit};
 ghost use Rattle.os_ast.specs.Views.{program_tree};
 ghost use Rattle.osrun_core_answer.specs.Made.{MakesTrace, TracesEnded};
 ghost use Rattle.osrun_core_jobs.specs.Files.{MayOpen, files_of};
@@ -34,7 +35,7 @@ fn trace_run<R: Threads + Sync, G: Gate>(
     gate: &G,
 ) -> Result<TracedRun, Memory>
     requires within { AreTerms terms }
-    requires few { length input.now ≤ 4194304 }
+    requires few { length input.now ≤ input_limit }
     ensures run { IfOk result (λ traced. IsRunOf terms.task_budget terms.control_budget (program_tree checked.now.program) input.now
         traced.run.output.items traced.run.layout traced.run.ends traced.run.control) }
     ensures traces { IfOk result (λ traced. TracesEnded terms.workers traced.run.ends.ends traced.text.items) }

@@ -1,5 +1,6 @@
 -- The files of a job.
 use Rattle.std.specs.Prelude.{◌≡◌, ◌≤◌, ◌+◌, ℕ, Bool, List, [], ◌∷◌, IfSome, IsTrue, Option, Some, codes, length, slice_get}
+use Rattle.flow_core_laws.specs.Limits.{input_limit}
 use Rattle.os_io.specs.Counts.{last_count}
 use Rattle.os_lexer.specs.Limits.{text_limit}
 use Rattle.osrun_core_jobs.specs.Jobs.{Request, Run, Gen, Compile, Exec, Explain, Trace, Replay}
@@ -16,7 +17,7 @@ subject_name subjects.Trace = codes "trace"
 -- how many bytes such a file may have
 abbrev pub limit_of : Subject → ℕ
 limit_of subjects.Program = text_limit
-limit_of subjects.Input = 4194304
+limit_of subjects.Input = input_limit
 limit_of subjects.Object = 67108864
 limit_of subjects.Trace = 4194304
 

@@ -1,5 +1,6 @@
 -- The jobs that words may name.
 use Rattle.std.specs.Prelude.{◌≤◌, ℕ, List, Option, Some, None}
+use Rattle.flow_core_laws.specs.Limits.{budget_limit, workers_limit}
 use Rattle.osrun_core_jobs.specs.declared.job.CompileJob.{CompileJob as LentCompile}
 use Rattle.osrun_core_jobs.specs.declared.job.ExecJob.{ExecJob as LentExec}
 use Rattle.osrun_core_jobs.specs.declared.job.ExplainJob.{ExplainJob as LentExplain}
@@ -166,39 +167,39 @@ replay_in (Replay job) = Some job
 -- the numbers of a job are within their bounds
 pub record IsWithin (job : Job) : Type 0 where
   pub some_workers : 1 ≤ job.workers
-  pub few_workers : job.workers ≤ 64
-  pub task_turns : job.task_budget ≤ 1000000000
-  pub control_turns : job.control_budget ≤ 1000000000
+  pub few_workers : job.workers ≤ workers_limit
+  pub task_turns : job.task_budget ≤ budget_limit
+  pub control_turns : job.control_budget ≤ budget_limit
 
 pub record IsGenWithin (job : GenJob) : Type 0 where
   pub seed_fits : job.seed ≤ 4294967295
   pub some_blocks : 1 ≤ job.blocks
   pub few_blocks : job.blocks ≤ 65536
   pub some_workers : 1 ≤ job.workers
-  pub few_workers : job.workers ≤ 64
+  pub few_workers : job.workers ≤ workers_limit
 
 pub record IsExecWithin (job : ExecJob) : Type 0 where
   pub some_workers : 1 ≤ job.workers
-  pub few_workers : job.workers ≤ 64
-  pub task_turns : job.task_budget ≤ 1000000000
-  pub control_turns : job.control_budget ≤ 1000000000
+  pub few_workers : job.workers ≤ workers_limit
+  pub task_turns : job.task_budget ≤ budget_limit
+  pub control_turns : job.control_budget ≤ budget_limit
 
 pub record IsExplainWithin (job : ExplainJob) : Type 0 where
   pub few_activations : job.activation ≤ 65535
   pub some_workers : 1 ≤ job.workers
-  pub few_workers : job.workers ≤ 64
-  pub task_turns : job.task_budget ≤ 1000000000
-  pub control_turns : job.control_budget ≤ 1000000000
+  pub few_workers : job.workers ≤ workers_limit
+  pub task_turns : job.task_budget ≤ budget_limit
+  pub control_turns : job.control_budget ≤ budget_limit
 
 pub record IsTraceWithin (job : TraceJob) : Type 0 where
   pub some_workers : 1 ≤ job.workers
-  pub few_workers : job.workers ≤ 64
-  pub task_turns : job.task_budget ≤ 1000000000
-  pub control_turns : job.control_budget ≤ 1000000000
+  pub few_workers : job.workers ≤ workers_limit
+  pub task_turns : job.task_budget ≤ budget_limit
+  pub control_turns : job.control_budget ≤ budget_limit
 
 pub record IsReplayWithin (job : ReplayJob) : Type 0 where
-  pub task_turns : job.task_budget ≤ 1000000000
-  pub control_turns : job.control_budget ≤ 1000000000
+  pub task_turns : job.task_budget ≤ budget_limit
+  pub control_turns : job.control_budget ≤ budget_limit
 
 abbrev pub IsRequestWithin : Request → Type 0
 IsRequestWithin (Run job) = IsWithin job

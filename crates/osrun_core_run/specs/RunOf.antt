@@ -3,6 +3,7 @@ use Rattle.std.specs.Prelude.{◌≡◌, ◌≤◌, ℕ, All, List, length}
 use Rattle.cddf_meaning.specs.Control.{control}
 use Rattle.collector.specs.Written.{written}
 use Rattle.epoch_run_bodies.specs.Frames.{code_ends}
+use Rattle.flow_core_laws.specs.Limits.{budget_limit, positions_limit, workers_limit}
 use Rattle.flow_core_laws.specs.declared.control.Control.{Control}
 use Rattle.flow_core_laws.specs.declared.control.ControlEnd.{ControlEnd}
 use Rattle.flow_core_laws.specs.declared.ends.Ends.{Ends}
@@ -19,9 +20,9 @@ use Rattle.stream_match_layouts.specs.declared.layout.Layout.{Layout}
 -- the terms are within their bounds
 pub record AreTerms (terms : Terms) : Type 0 where
   pub some_workers : 1 ≤ terms.workers
-  pub few_workers : terms.workers ≤ 64
-  pub task_turns : terms.task_budget ≤ 1000000000
-  pub control_turns : terms.control_budget ≤ 1000000000
+  pub few_workers : terms.workers ≤ workers_limit
+  pub task_turns : terms.task_budget ≤ budget_limit
+  pub control_turns : terms.control_budget ≤ budget_limit
 
 -- the budgets among the terms of a run
 abbrev pub budgets_of : Terms → Budgets
@@ -39,7 +40,7 @@ pub record IsRunOf (task_budget control_budget : ℕ) (p : ProgramTree) (input o
   pub over : layout.input_len ≡ length input
   pub ends_are : ends ≡ ends_over p made.activations input task_budget
   pub writes : output ≡ written ends.output
-  pub few : length output ≤ 4194304
+  pub few : length output ≤ positions_limit
 
 -- The output, the layout and the ends are those of the activations that `main` of the code creates on the machine, with these
 -- budgets. Each of them fits the code.
@@ -54,4 +55,4 @@ pub record IsRunOfCode (task_budget control_budget : ℕ) (code : Parts) (input 
   pub over : layout.input_len ≡ length input
   pub ends_are : ends ≡ code_ends code made.activations input task_budget
   pub writes : output ≡ written ends.output
-  pub few : length output ≤ 4194304
+  pub few : length output ≤ positions_limit

@@ -1,5 +1,6 @@
 ghost use Rattle.std.specs.Prelude.{◌≡◌, ◌≤◌, ◌<◌, ◌^◌, ℕ, List, All, IfOk, length};
 ghost use Rattle.epoch_run_bodies.specs.Frames.{frame_outcome};
+ghost use Rattle.flow_core_laws.specs.Limits.{budget_limit, input_limit, workers_limit};
 ghost use Rattle.flow_core_laws.specs.IsSound.{IsSound};
 ghost use Rattle.flow_core_laws.specs.StandsFor.{StandsFor};
 ghost use Rattle.os_code.specs.Codes.{parts_of};
@@ -35,11 +36,11 @@ fn replay_lists(
     plan: &Plan,
     lists: &[List<u32>],
 ) -> Result<Replayed, Memory>
-    requires budget { task_budget ≤ 1000000000 }
+    requires budget { task_budget ≤ budget_limit }
     requires fit { All (Fits (parts_of code.now)) control.now.activations }
     requires sound { IsSound plan.now }
     requires stands { (input : List ℕ) × StandsFor plan.now control.now.activations input }
-    requires lists { (1 ≤ length lists.now) × (length lists.now ≤ 64) }
+    requires lists { (1 ≤ length lists.now) × (length lists.now ≤ workers_limit) }
     requires short { All (λ list. length list < 2 ^ 32) lists.now }
     ensures { IfOk result (IsAnswer plan.now (frame_outcome (parts_of code.now) control.now.activations task_budget) lists.now) }
 {
@@ -60,10 +61,10 @@ pub(crate) fn replay_code(
     input: &[u8],
     lists: &[List<u32>],
 ) -> Result<CodeReplay, Memory>
-    requires task_turns { budgets.task ≤ 1000000000 }
-    requires control_turns { budgets.control ≤ 1000000000 }
-    requires few { length input.now ≤ 4194304 }
-    requires lists { (1 ≤ length lists.now) × (length lists.now ≤ 64) }
+    requires task_turns { budgets.task ≤ budget_limit }
+    requires control_turns { budgets.control ≤ budget_limit }
+    requires few { length input.now ≤ input_limit }
+    requires lists { (1 ≤ length lists.now) × (length lists.now ≤ workers_limit) }
     requires short { All (λ list. length list < 2 ^ 32) lists.now }
     ensures planned { IfOk result (λ it. IsPlannedOf budgets.control (parts_of code.now) input.now
         it.planned.control it.planned.layout it.planned.plan) }

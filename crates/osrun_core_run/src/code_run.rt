@@ -1,4 +1,5 @@
 ghost use Rattle.std.specs.Prelude.{◌≤◌, length, IfOk};
+ghost use Rattle.flow_core_laws.specs.Limits.{input_limit};
 ghost use Rattle.os_code.specs.Codes.{parts_of};
 ghost use Rattle.osrun_core_run.specs.RunOf.{AreTerms, IsRunOfCode};
 
@@ -24,7 +25,7 @@ pub fn run_code<R: Threads + Sync, G: Gate>(
     gate: &G,
 ) -> Result<Run, Memory>
     requires within { AreTerms terms }
-    requires few { length input.now ≤ 4194304 }
+    requires few { length input.now ≤ input_limit }
     ensures run { IfOk result (λ run. IsRunOfCode terms.task_budget terms.control_budget
         (parts_of code.now) input.now run.output.items run.layout run.ends run.control) }
 {
@@ -53,7 +54,7 @@ pub fn run_code_over<R: Threads + Sync, G: Gate>(
     gate: &G,
 ) -> Result<Run, Memory>
     requires within { AreTerms terms }
-    requires few { length input.items ≤ 4194304 }
+    requires few { length input.items ≤ input_limit }
     ensures run { IfOk result (λ run. IsRunOfCode terms.task_budget terms.control_budget
         (parts_of code.now) input.items run.output.items run.layout run.ends run.control) }
 {

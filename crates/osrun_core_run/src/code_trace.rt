@@ -1,6 +1,7 @@
 ghost use Rattle.std.specs.Prelude.{◌≡◌, ◌≤◌, List, ℕ, All, IfOk, length};
 ghost use Rattle.collector.specs.Written.{IsByteIfThere};
 ghost use Rattle.epoch_run_bodies.specs.Frames.{code_ends};
+ghost use Rattle.flow_core_laws.specs.Limits.{budget_limit, input_limit, workers_limit};
 ghost use Rattle.flow_core_laws.specs.IsSound.{IsSound};
 ghost use Rattle.flow_core_laws.specs.StandsFor.{StandsFor};
 ghost use Rattle.os_code.specs.Codes.{parts_of};
@@ -41,8 +42,8 @@ fn run_logged<R: Threads + Sync, G: Gate>(
     plan: &Plan,
     gate: &G,
 ) -> Result<Logged, Memory>
-    requires workers { (1 ≤ terms.workers) × (terms.workers ≤ 64) }
-    requires budget { terms.task_budget ≤ 1000000000 }
+    requires workers { (1 ≤ terms.workers) × (terms.workers ≤ workers_limit) }
+    requires budget { terms.task_budget ≤ budget_limit }
     requires fit { All (Fits (parts_of code.now)) control.now.activations }
     requires sound { IsSound plan.now }
     requires stands { (input : List ℕ) × StandsFor plan.now control.now.activations input }
@@ -75,7 +76,7 @@ pub fn trace_code<R: Threads + Sync, G: Gate>(
     gate: &G,
 ) -> Result<Traced, Memory>
     requires within { AreTerms terms }
-    requires few { length input.now ≤ 4194304 }
+    requires few { length input.now ≤ input_limit }
     ensures run { IfOk result (λ traced. IsRunOfCode terms.task_budget terms.control_budget (parts_of code.now) input.now
         traced.run.output.items traced.run.layout traced.run.ends traced.run.control) }
     // A list for each worker, and in them each activation with an end once.

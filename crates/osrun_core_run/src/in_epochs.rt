@@ -1,4 +1,5 @@
 ghost use Rattle.std.specs.Prelude.{◌≡◌, ◌≤◌, All, IfOk, length};
+ghost use Rattle.flow_core_laws.specs.Limits.{input_limit};
 ghost use Rattle.collector.specs.Written.{IsByteIfThere};
 ghost use Rattle.epoch_run.specs.Run.{created};
 ghost use Rattle.epoch_run_bodies.specs.Frames.{code_ends};
@@ -29,7 +30,7 @@ pub fn run_in_epochs<R: Threads + Sync, G: Gate>(
     gate: &G,
 ) -> Result<RunResult, Memory>
     requires within { AreTerms terms }
-    requires few { length input.now ≤ 4194304 }
+    requires few { length input.now ≤ input_limit }
     ensures layout { IfOk result (λ run. IsLayoutOf run.layout (created (parts_of code.now) input.now (budgets_of terms))) }
     ensures whole { IfOk result (λ run. IsLayout run.layout) }
     ensures input { IfOk result (λ run. run.layout.input_len ≡ length input.now) }

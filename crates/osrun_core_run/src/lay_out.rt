@@ -1,4 +1,5 @@
 ghost use Rattle.std.specs.Prelude.{◌≡◌, ◌≤◌, IfOk, length};
+ghost use Rattle.flow_core_laws.specs.Limits.{input_limit};
 ghost use Rattle.stream_match_layouts.specs.Lawful.{AreLawful};
 ghost use Rattle.stream_match_layouts.specs.Layout.{IsLayout, IsLayoutOf};
 
@@ -16,7 +17,7 @@ pub fn lay_out(
     input: &[u8],
 ) -> Result<Layout, Memory>
     requires lawful { AreLawful code.now.streams control.now.activations }
-    requires few { length input.now ≤ 4194304 }
+    requires few { length input.now ≤ input_limit }
     ensures layout { IfOk result (λ layout. IsLayoutOf layout control.now.activations) }
     ensures whole { IfOk result IsLayout }
     ensures input { IfOk result (λ layout. layout.input_len ≡ length input.now) }

@@ -1,4 +1,5 @@
 ghost use Rattle.std.specs.Prelude.{◌≤◌, IfOk, length};
+ghost use Rattle.flow_core_laws.specs.Limits.{budget_limit, input_limit};
 ghost use Rattle.os_code.specs.Codes.{parts_of};
 ghost use Rattle.osrun_core_run.specs.Planned.{IsPlannedOf};
 
@@ -28,8 +29,8 @@ pub(crate) fn plan_run(
     control_budget: u64,
     input: &[u8],
 ) -> Result<Planned, Memory>
-    requires budget { control_budget ≤ 1000000000 }
-    requires few { length input.now ≤ 4194304 }
+    requires budget { control_budget ≤ budget_limit }
+    requires few { length input.now ≤ input_limit }
     ensures { IfOk result (λ planned. IsPlannedOf control_budget (parts_of code.now) input.now
         planned.control planned.layout planned.plan) }
 {

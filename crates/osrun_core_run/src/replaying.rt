@@ -1,5 +1,6 @@
 ghost use Rattle.std.specs.Prelude.{◌≡◌, ◌≤◌, ◌<◌, ◌^◌, ℕ, All, List, length, IfOk};
 ghost use Rattle.collector.specs.Written.{IsByteIfThere, written};
+ghost use Rattle.flow_core_laws.specs.Limits.{budget_limit, input_limit, workers_limit};
 ghost use Rattle.flow_core_laws.specs.StandsFor.{StandsFor};
 ghost use Rattle.os_ast.specs.Views.{program_tree};
 ghost use Rattle.osrun_core_run.specs.HandedBack.{HasBytes, HasItsCell, IsMadeOf};
@@ -91,10 +92,10 @@ pub fn replay_program(
     input: &[u8],
     lists: &[List<u32>],
 ) -> Result<Replay, Memory>
-    requires task_turns { budgets.task ≤ 1000000000 }
-    requires control_turns { budgets.control ≤ 1000000000 }
-    requires few { length input.now ≤ 4194304 }
-    requires lists { (1 ≤ length lists.now) × (length lists.now ≤ 64) }
+    requires task_turns { budgets.task ≤ budget_limit }
+    requires control_turns { budgets.control ≤ budget_limit }
+    requires few { length input.now ≤ input_limit }
+    requires lists { (1 ≤ length lists.now) × (length lists.now ≤ workers_limit) }
     requires short { All (λ list. length list < 2 ^ 32) lists.now }
     ensures { IfOk result (IsReplay budgets (program_tree checked.now.program) input.now lists.now) }
 {

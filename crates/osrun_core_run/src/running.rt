@@ -1,4 +1,5 @@
 ghost use Rattle.std.specs.Prelude.{◌≤◌, length, IfOk};
+ghost use Rattle.flow_core_laws.specs.Limits.{input_limit};
 ghost use Rattle.os_ast.specs.Views.{program_tree};
 ghost use Rattle.osrun_core_run.specs.RunOf.{AreTerms, IsRunOf};
 
@@ -23,7 +24,7 @@ pub fn run_program<R: Threads + Sync, G: Gate>(
     gate: &G,
 ) -> Result<Run, Memory>
     requires within { AreTerms terms }
-    requires few { length input.now ≤ 4194304 }
+    requires few { length input.now ≤ input_limit }
     ensures run { IfOk result (λ run. IsRunOf terms.task_budget terms.control_budget
         (program_tree checked.now.program) input.now run.output.items run.layout run.ends run.control) }
 {
@@ -43,7 +44,7 @@ pub fn run_program_over<R: Threads + Sync, G: Gate>(
     gate: &G,
 ) -> Result<Run, Memory>
     requires within { AreTerms terms }
-    requires few { length input.items ≤ 4194304 }
+    requires few { length input.items ≤ input_limit }
     ensures run { IfOk result (λ run. IsRunOf terms.task_budget terms.control_budget
         (program_tree checked.now.program) input.items run.output.items run.layout run.ends run.control) }
 {

@@ -1,4 +1,5 @@
 ghost use Rattle.std.specs.Prelude.{◌≡◌, ◌≤◌, length, IfOk};
+ghost use Rattle.flow_core_laws.specs.Limits.{input_limit};
 ghost use Rattle.os_ast.specs.Views.{program_tree};
 ghost use Rattle.osrun_core_run.specs.RunOf.{AreTerms, IsRunOf};
 ghost use Rattle.task_workers.specs.Logged.{HoldTheEnded};
@@ -24,7 +25,7 @@ pub fn trace_program<R: Threads + Sync, G: Gate>(
     gate: &G,
 ) -> Result<Traced, Memory>
     requires within { AreTerms terms }
-    requires few { length input.now ≤ 4194304 }
+    requires few { length input.now ≤ input_limit }
     ensures run { IfOk result (λ traced. IsRunOf terms.task_budget terms.control_budget (program_tree checked.now.program) input.now
         traced.run.output.items traced.run.layout traced.run.ends traced.run.control) }
     // A list for each worker, and in them each activation with an end once.

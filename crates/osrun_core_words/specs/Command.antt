@@ -1,5 +1,6 @@
 -- What the words of a command name.
 use Rattle.std.specs.Prelude.{List, [], ◌∷◌, Option, Some, None, codes, find, map, option_and_then, string_bytes}
+use Rattle.flow_core_laws.specs.Limits.{budget_limit, workers_limit}
 use Rattle.std.specs.Str.{bytes_eq}
 use Rattle.std.specs.declared.string.String.{String}
 use Rattle.std.specs.declared.alloc.Global.{Global}
@@ -17,13 +18,13 @@ pub record CommandForm : Type 0 where
   pub request : List Row → Request
 
 abbrev pub workers : Argument
-workers = option (codes "workers") (codes "4") 1 64
+workers = option (codes "workers") (codes "4") 1 workers_limit
 
 abbrev pub task_budget : Argument
-task_budget = option (codes "budget") (codes "1000000") 0 1000000000
+task_budget = option (codes "budget") (codes "1000000") 0 budget_limit
 
 abbrev pub control_budget : Argument
-control_budget = option (codes "control") (codes "1000000") 0 1000000000
+control_budget = option (codes "control") (codes "1000000") 0 budget_limit
 
 -- `run PROGRAM INPUT [--workers N] [--budget N] [--control N]`
 abbrev pub run_form : CommandForm

@@ -1,4 +1,5 @@
 use crate::argument::Argument;
+use flow_core_laws::{BUDGET_LIMIT, WORKERS_LIMIT};
 
 /// A command: the first word, which picks it, and what it takes.
 #[derive(Clone, Copy)]
@@ -25,7 +26,7 @@ pub const WORKERS: Argument<'static> = Argument::Option {
     id: "workers",
     default: "4",
     least: 1,
-    most: 64,
+    most: WORKERS_LIMIT as u64,
 };
 
 /// How many turns each task of a run may take.
@@ -33,7 +34,7 @@ pub const TASK_BUDGET: Argument<'static> = Argument::Option {
     id: "budget",
     default: "1000000",
     least: 0,
-    most: 1_000_000_000,
+    most: BUDGET_LIMIT,
 };
 
 /// How many turns the control program of a run may take.
@@ -41,7 +42,7 @@ pub const CONTROL_BUDGET: Argument<'static> = Argument::Option {
     id: "control",
     default: "1000000",
     least: 0,
-    most: 1_000_000_000,
+    most: BUDGET_LIMIT,
 };
 
 /// What the bytes are made from.

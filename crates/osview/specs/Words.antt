@@ -1,5 +1,6 @@
 -- What words ask for.
 use Rattle.std.specs.Prelude.{◌≤◌, IfSome}
+use Rattle.flow_core_laws.specs.Limits.{budget_limit, workers_limit}
 use Rattle.osrun_core_jobs.specs.Jobs.{IsWithin, job_of}
 use Rattle.osview.specs.declared.options.Options.{Options}
 use Rattle.osview.specs.declared.request.Request.{Request}
@@ -17,6 +18,6 @@ IsLawful request.Version = Unit {0}
 -- the numbers of options are within their bounds
 pub record AreWithin (options : Options) : Type 0 where
   pub some_workers : IfSome options.workers (λ n. 1 ≤ n)
-  pub few_workers : IfSome options.workers (λ n. n ≤ 64)
-  pub task_turns : IfSome options.task_budget (λ n. n ≤ 1000000000)
-  pub control_turns : IfSome options.control_budget (λ n. n ≤ 1000000000)
+  pub few_workers : IfSome options.workers (λ n. n ≤ workers_limit)
+  pub task_turns : IfSome options.task_budget (λ n. n ≤ budget_limit)
+  pub control_turns : IfSome options.control_budget (λ n. n ≤ budget_limit)

@@ -1,9 +1,11 @@
 //! What words have behind the one that says what to do: names and numbers, and options between them.
 
 ghost use Rattle.std.specs.Prelude.{◌≡◌, ◌<◌, ◌≤◌, IfSome, length};
+ghost use Rattle.flow_core_laws.specs.Limits.{budget_limit, workers_limit};
 ghost use Rattle.osrun_core_run.specs.RunOf.{AreTerms};
 ghost use Rattle.osview.specs.Words.{AreWithin};
 
+use flow_core_laws::{BUDGET_LIMIT, WORKERS_LIMIT};
 use osrun_core_jobs::Terms;
 
 /// How many names and numbers there are at most.
@@ -35,17 +37,17 @@ fn number_within(word: &str, least: u64, most: u64) -> Option<u64>
 
 /// A number of turns.
 fn turns_of(word: &str) -> Option<u64>
-    ensures { IfSome result (λ turns. turns ≤ 1000000000) }
+    ensures { IfSome result (λ turns. turns ≤ budget_limit) }
 {
-    number_within(word, 0, 1_000_000_000)
+    number_within(word, 0, BUDGET_LIMIT)
 }
 
 /// A number of workers.
 fn workers_of(word: &str) -> Option<u32>
     ensures some { IfSome result (λ workers. 1 ≤ workers) }
-    ensures few { IfSome result (λ workers. workers ≤ 64) }
+    ensures few { IfSome result (λ workers. workers ≤ workers_limit) }
 {
-    match number_within(word, 1, 64) {
+    match number_within(word, 1, u64::from(WORKERS_LIMIT)) {
         Some(workers) => Some(workers as u32),
         None => None,
     }

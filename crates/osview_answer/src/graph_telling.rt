@@ -1,4 +1,5 @@
 ghost use Rattle.std.specs.Prelude.{◌≤◌, IfOk, length};
+ghost use Rattle.flow_core_laws.specs.Limits.{input_limit};
 ghost use Rattle.osrun_core_jobs.specs.Files.{MayOpen, files_of};
 ghost use Rattle.osrun_core_jobs.specs.Jobs.{IsWithin, Run as RunRequest, job_of};
 ghost use Rattle.osrun_core_jobs.specs.Status.{code_of};
@@ -32,7 +33,7 @@ fn tell_graph<R: Threads + Sync, G: Gate>(
     gate: &G,
 ) -> Result<Told, Memory>
     requires within { AreTerms job.now.run.terms }
-    requires few { length input.now ≤ 4194304 }
+    requires few { length input.now ≤ input_limit }
     requires source { IsSource source.now }
     ensures { IfOk result (λ told. IsGraphOf job.now.run.terms.task_budget job.now.run.terms.control_budget source.now.text.items input.now
         job.now.view told.text.items (code_of told.status)) }

@@ -1,4 +1,5 @@
 ghost use Rattle.std.specs.Prelude.{◌≡◌, ◌≤◌, All, IfOk};
+ghost use Rattle.flow_core_laws.specs.Limits.{budget_limit, input_limit};
 ghost use Rattle.control_run.specs.Stretches.{MainTakes};
 ghost use Rattle.os_code.specs.Codes.{parts_of};
 ghost use Rattle.os_code.specs.Control.{ControlEnds};
@@ -26,8 +27,8 @@ pub(crate) fn run_main(
     input_len: u32,
     budget: u64,
 ) -> Result<MainRun, Memory>
-    requires input { input_len ≤ 4194304 }
-    requires budget { budget ≤ 1000000000 }
+    requires input { input_len ≤ input_limit }
+    requires budget { budget ≤ budget_limit }
     ensures activations { IfOk result (λ run. run.activations ≡ (control (parts_of code.now) input_len budget).activations) }
     ensures fit { IfOk result (λ run. All (Fits (parts_of code.now)) run.activations) }
     ensures steps { IfOk result (λ run. ControlEnds (parts_of code.now) input_len budget (control (parts_of code.now) input_len budget) run.taken.steps) }

@@ -1,5 +1,6 @@
 ghost use Rattle.std.specs.Prelude.{◌≡◌, ◌≤◌, All, IfOk, length};
 ghost use Rattle.epoch_run_bodies.specs.Frames.{frame_outcome};
+ghost use Rattle.flow_core_laws.specs.Limits.{budget_limit};
 ghost use Rattle.flow_core_laws.specs.Streams.{stream_meaning};
 ghost use Rattle.os_code.specs.Codes.{parts_of};
 ghost use Rattle.os_code.specs.Tasks.{Fits};
@@ -24,7 +25,7 @@ pub(crate) fn task_outcomes(
     input: &[u8],
     budget: u64,
 ) -> Result<Outcomes, Memory>
-    requires budget { budget ≤ 1000000000 }
+    requires budget { budget ≤ budget_limit }
     requires fit { All (Fits (parts_of code.now)) activations.now }
     requires layout { IsLayout layout.now }
     requires laid { IsLayoutOf layout.now activations.now }

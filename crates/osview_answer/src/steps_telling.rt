@@ -1,4 +1,5 @@
 ghost use Rattle.std.specs.Prelude.{◌≤◌, IfOk, length};
+ghost use Rattle.flow_core_laws.specs.Limits.{input_limit};
 ghost use Rattle.os_ast.specs.Views.{program_tree};
 ghost use Rattle.osrun_core_jobs.specs.Files.{MayOpen, files_of};
 ghost use Rattle.osrun_core_jobs.specs.Jobs.{IsWithin, Run as RunRequest, job_of};
@@ -32,7 +33,7 @@ pub(crate) fn tell_steps<R: Threads + Sync, G: Gate>(
     gate: &G,
 ) -> Result<Told, Memory>
     requires within { AreTerms terms }
-    requires few { length input.now ≤ 4194304 }
+    requires few { length input.now ≤ input_limit }
     requires source { IsSource source.now }
     ensures { IfOk result (λ told. AreSteps terms.task_budget terms.control_budget (program_tree source.now.checked.program) input.now
         told.text.items (code_of told.status)) }

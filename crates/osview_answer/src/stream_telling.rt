@@ -1,4 +1,5 @@
 ghost use Rattle.std.specs.Prelude.{◌≡◌, ◌<◌, ◌≤◌, IfOk, length};
+ghost use Rattle.flow_core_laws.specs.Limits.{input_limit};
 ghost use Rattle.os_ast.specs.Views.{program_tree};
 ghost use Rattle.osrun_core_jobs.specs.Files.{MayOpen, files_of};
 ghost use Rattle.osrun_core_jobs.specs.Jobs.{IsWithin, Run as RunRequest, job_of};
@@ -47,7 +48,7 @@ fn tell_elements<R: Threads + Sync, G: Gate>(
     gate: &G,
 ) -> Result<Told, Memory>
     requires within { AreTerms job.now.run.terms }
-    requires few { length input.now ≤ 4194304 }
+    requires few { length input.now ≤ input_limit }
     requires source { IsSource source.now }
     ensures { IfOk result (λ told. AreElements job.now.run.terms.task_budget job.now.run.terms.control_budget
         (program_tree source.now.checked.program) input.now stream job.now.first job.now.count told.text.items (code_of told.status)) }
@@ -105,7 +106,7 @@ pub(crate) fn tell_stream<R: Threads + Sync, G: Gate>(
     gate: &G,
 ) -> Result<StreamTold, Memory>
     requires within { AreTerms job.now.run.terms }
-    requires few { length input.now ≤ 4194304 }
+    requires few { length input.now ≤ input_limit }
     requires source { IsSource source.now }
     ensures { IfOk result (λ told. IsTold job.now.run.terms.task_budget job.now.run.terms.control_budget source.now.text.items input.now
         (asked_of job.now) told) }

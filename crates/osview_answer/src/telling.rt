@@ -1,4 +1,5 @@
 ghost use Rattle.std.specs.Prelude.{◌≤◌, IfOk, length};
+ghost use Rattle.flow_core_laws.specs.Limits.{input_limit};
 ghost use Rattle.osrun_core_jobs.specs.Files.{MayOpen, files_of};
 ghost use Rattle.osrun_core_jobs.specs.Jobs.{IsWithin, Run as RunRequest, job_of};
 ghost use Rattle.osrun_core_jobs.specs.Status.{code_of};
@@ -37,7 +38,7 @@ pub(crate) fn tell_run<R: Threads + Sync, G: Gate>(
     gate: &G,
 ) -> Result<Told, Memory>
     requires within { AreTerms terms }
-    requires few { length input.now ≤ 4194304 }
+    requires few { length input.now ≤ input_limit }
     requires source { IsSource source.now }
     ensures { IfOk result (λ told. IsReportOf terms.task_budget terms.control_budget source.now.text.items input.now
         told.text.items (code_of told.status)) }

@@ -1,5 +1,6 @@
 ghost use Rattle.std.specs.Prelude.{◌≡◌, ◌≤◌, All, IfOk, length, map};
 ghost use Rattle.epoch_run_bodies.specs.Frames.{frame_outcome};
+ghost use Rattle.flow_core_laws.specs.Limits.{activations_limit, budget_limit};
 ghost use Rattle.flow_core_laws.specs.Streams.{stream_meaning, stream_reads};
 ghost use Rattle.os_code.specs.Codes.{parts_of};
 ghost use Rattle.os_code.specs.Tasks.{Fits};
@@ -60,7 +61,7 @@ pub fn measure(
     input: &[u8],
     budget: u64,
 ) -> Result<Measured, Memory>
-    requires budget { budget ≤ 1000000000 }
+    requires budget { budget ≤ budget_limit }
     requires fit { All (Fits (parts_of code.now)) activations.now }
     requires layout { IsLayout layout.now }
     requires laid { IsLayoutOf layout.now activations.now }
@@ -68,7 +69,7 @@ pub fn measure(
     ensures runs { IfOk result (λ measured. AreRuns (parts_of code.now) activations.now input.now budget
         (stream_meaning activations.now input.now (frame_outcome (parts_of code.now) activations.now budget)) measured.runs) }
     ensures longest { IfOk result (λ measured. IsLongest (stream_reads activations.now input.now) (steps_of_runs measured.runs) measured.longest) }
-    ensures few { IfOk result (λ measured. length measured.runs ≤ 65536) }
+    ensures few { IfOk result (λ measured. length measured.runs ≤ activations_limit) }
 {
     bodies_serve();
     laws::plan_meaning();

@@ -1,4 +1,5 @@
 ghost use Rattle.std.specs.Prelude.{◌≡◌, ◌^◌, ◌<◌, ◌≤◌, ◌*◌, ◌++◌, OnOk};
+ghost use Rattle.flow_core_laws.specs.Limits.{activations_limit};
 ghost use Rattle.std.specs.Fmt.{decimal};
 ghost use Rattle.osview_steps.specs.Lines.{hundredths, tenths};
 ghost use Rattle.osview_steps.specs.Tallies.{mean, ratio, share};
@@ -62,7 +63,7 @@ pub(crate) fn mean(sum: u128, count: u32) -> u128
 
 /// A share in thousandths of the whole, rounded down; 0 of nothing.
 pub(crate) fn share(part: u128, whole: u128) -> u128
-    requires { part ≤ 65536 * 18446744073709551615 }
+    requires { part ≤ activations_limit * 18446744073709551615 }
     ensures { result ≡ share part whole }
 {
     if whole == 0 {
@@ -73,7 +74,7 @@ pub(crate) fn share(part: u128, whole: u128) -> u128
 
 /// How many times as much all is as one, in hundredths, rounded up; of nothing it is as much.
 pub(crate) fn ratio(all: u128, one: u128) -> u128
-    requires { all ≤ 65536 * 18446744073709551615 }
+    requires { all ≤ activations_limit * 18446744073709551615 }
     ensures { result ≡ ratio all one }
 {
     if one == 0 {

@@ -1,4 +1,5 @@
 ghost use Rattle.std.specs.Prelude.{◌≡◌, ◌≤◌, ℕ, [], All, IfOk, None, Some, length, slice_get, slice_index_or, true};
+ghost use Rattle.flow_core_laws.specs.Limits.{activations_limit, budget_limit};
 ghost use Rattle.flow_core_laws.specs.Plans.{frame_at};
 ghost use Rattle.flow_core_laws.specs.Streams.{output_count};
 ghost use Rattle.flow_core_laws.specs.declared.activation.Activation.{Activation as Acts};
@@ -63,7 +64,7 @@ fn taken_over(
     requires inputs { length inputs.now ≡ input_count activation.now }
     requires outputs { count ≡ output_count activation.now }
     requires made { IsMadeFor (parts_of code.now) scratch.old }
-    requires budget { budget ≤ 1000000000 }
+    requires budget { budget ≤ budget_limit }
     ensures steps { IfOk result (λ taken. TaskEnds (parts_of code.now) activation.now inputs.now budget
         (task_outcome (parts_of code.now) activation.now inputs.now budget) taken.steps) }
     ensures turns { IfOk result (λ taken. TakesTurns (parts_of code.now) activation.now inputs.now budget taken.turns) }
@@ -99,7 +100,7 @@ fn run_of(
     requires inputs { has_run (end_at outcomes.now place) ≡ true → length (inputs_at outcomes.now place) ≡ input_count activation.now }
     requires outputs { count ≡ output_count activation.now }
     requires made { IsMadeFor (parts_of code.now) scratch.old }
-    requires budget { budget ≤ 1000000000 }
+    requires budget { budget ≤ budget_limit }
     ensures task { IfOk result (λ run. run.task ≡ activation.now.site) }
     ensures took { IfOk result (λ run. Took (parts_of code.now) activation.now (inputs_at outcomes.now place) budget (end_at outcomes.now place) run.took) }
     ensures made { IsMadeFor (parts_of code.now) scratch.new }
@@ -129,8 +130,8 @@ pub(crate) fn all_runs(
     requires inputs { (a : ℕ) (x : Acts) → slice_get activations.now a ≡ Some x → has_run (end_at outcomes.now a) ≡ true
         → length (inputs_at outcomes.now a) ≡ input_count x }
     requires outputs { (a : ℕ) (x : Acts) → slice_get activations.now a ≡ Some x → (frame_at plan.now a).outputs ≡ output_count x }
-    requires few { length activations.now ≤ 65536 }
-    requires budget { budget ≤ 1000000000 }
+    requires few { length activations.now ≤ activations_limit }
+    requires budget { budget ≤ budget_limit }
     ensures many { IfOk result (λ runs. length runs ≡ length activations.now) }
     ensures exact { IfOk result (λ runs. HaveRun (parts_of code.now) activations.now budget outcomes.now runs) }
 {

@@ -1,4 +1,5 @@
 ghost use Rattle.std.specs.Prelude.{◌≡◌, ◌+◌, ◌^◌, ◌<◌, ◌≤◌, ℕ, All, IfOk, length, max, min, slice_index_or, slice_set, sum, ◌*◌};
+ghost use Rattle.flow_core_laws.specs.Limits.{activations_limit};
 ghost use Rattle.std.specs.Option.{option_map_or};
 ghost use Rattle.osview_steps.specs.Counting.{IsSmall, IsTallyOf, counted, nothing_counted};
 ghost use Rattle.osview_steps.specs.Steps.{steps_if};
@@ -116,11 +117,11 @@ fn nothing_yet(alloc: Global, tasks: usize) -> Result<List<Tally>, Memory>
 
 /// What is counted of each of so many tasks, over the activations of a run.
 pub(crate) fn tallies(alloc: Global, tasks: usize, runs: &[TaskRun]) -> Result<List<Tally>, Memory>
-    requires few { length runs.now ≤ 65536 }
+    requires few { length runs.now ≤ activations_limit }
     requires tasks { All (λ (r : Run). r.task < tasks) runs.now }
     ensures many { IfOk result (λ tallies. length tallies ≡ tasks) }
     ensures exact { IfOk result (λ tallies. (t : ℕ) → t < tasks → IsTallyOf t runs.now (slice_index_or tallies t nothing_counted)) }
-    ensures small { IfOk result (λ tallies. (t : ℕ) → t < tasks → IsSmall 65536 (slice_index_or tallies t nothing_counted)) }
+    ensures small { IfOk result (λ tallies. (t : ℕ) → t < tasks → IsSmall activations_limit (slice_index_or tallies t nothing_counted)) }
 {
     let mut tallies = nothing_yet(alloc, tasks)?;
     for run in runs {
@@ -141,9 +142,9 @@ fn steps_of(run: &TaskRun) -> u64
 
 /// The steps of all activations that ran.
 pub(crate) fn total(runs: &[TaskRun]) -> u128
-    requires few { length runs.now ≤ 65536 }
+    requires few { length runs.now ≤ activations_limit }
     ensures exact { result ≡ sum (all_steps runs.now) }
-    ensures small { result ≤ 65536 * 18446744073709551615 }
+    ensures small { result ≤ activations_limit * 18446744073709551615 }
 {
     let mut total = 0;
     for run in runs {

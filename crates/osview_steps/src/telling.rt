@@ -1,4 +1,5 @@
 ghost use Rattle.std.specs.Prelude.{◌≡◌, ◌<◌, ◌≤◌, ◌*◌, ◌++◌, ◌==◌, All, IfOk, OnOk, codes, if◌then◌else◌, length};
+ghost use Rattle.flow_core_laws.specs.Limits.{activations_limit};
 ghost use Rattle.osview_steps.specs.Counting.{IsSmall};
 ghost use Rattle.osview_steps.specs.Lines.{all_line, counts_text, longest_line, main_line, range_text, share_text, speed_line};
 ghost use Rattle.osview_steps.specs.Lines.{step_count, steps_lines, turns_text};
@@ -99,7 +100,7 @@ fn add_main(told: &mut Text, main: Taken, all: u128) -> Result<(), Memory>
 
 /// Adds what a task's activations took, where some ran.
 fn add_steps(told: &mut Text, tally: Tally, all: u128) -> Result<(), Memory>
-    requires { IsSmall 65536 tally }
+    requires { IsSmall activations_limit tally }
     ensures { OnOk result (told.new ≡ told.old ++ tally_text tally all) }
 {
     if tally.ran == 0 {
@@ -114,7 +115,7 @@ fn add_steps(told: &mut Text, tally: Tally, all: u128) -> Result<(), Memory>
 
 /// Adds the line of a task.
 fn add_task(told: &mut Text, line: u32, tally: Tally, all: u128) -> Result<(), Memory>
-    requires { IsSmall 65536 tally }
+    requires { IsSmall activations_limit tally }
     ensures { OnOk result (told.new ≡ told.old ++ tally_line line tally all) }
 {
     add_counts(told, line, tally.activations, tally.ran)?;
@@ -124,7 +125,7 @@ fn add_task(told: &mut Text, line: u32, tally: Tally, all: u128) -> Result<(), M
 
 /// Adds how many times as fast more workers can make the tasks.
 fn add_speed(told: &mut Text, all: u128, longest: u128) -> Result<(), Memory>
-    requires { all ≤ 65536 * 18446744073709551615 }
+    requires { all ≤ activations_limit * 18446744073709551615 }
     ensures { OnOk result (told.new ≡ told.old ++ speed_line all longest) }
 {
     told.add(b"more workers can make the tasks ")?;
@@ -134,7 +135,7 @@ fn add_speed(told: &mut Text, all: u128, longest: u128) -> Result<(), Memory>
 
 /// Adds the lines of the whole.
 fn add_chain(told: &mut Text, all: u128, longest: u128) -> Result<(), Memory>
-    requires { all ≤ 65536 * 18446744073709551615 }
+    requires { all ≤ activations_limit * 18446744073709551615 }
     ensures { OnOk result (told.new ≡ told.old ++ (all_line all ++ longest_line longest ++ speed_line all longest)) }
 {
     add_step_line(told, b"all tasks: ", all)?;
@@ -155,7 +156,7 @@ pub fn steps_text(
     main: Taken,
     longest: u128,
 ) -> Result<Text, Memory>
-    requires few { length runs.now ≤ 65536 }
+    requires few { length runs.now ≤ activations_limit }
     requires tasks { All (λ (r : Run). r.task < length lines.now) runs.now }
     ensures { IfOk result (λ told. told ≡ steps_lines lines.now runs.now main longest) }
 {

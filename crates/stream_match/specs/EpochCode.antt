@@ -3,6 +3,7 @@ use Rattle.std.specs.Prelude.{◌≡◌, ℕ, ◌+◌, ◌<◌, ◌≤◌, ◌�
 use Rattle.std.specs.Prelude.{slice_index, length, map, filter, nat_lt, sum_by, take, count_by, is_none, replicate, ◌^◌, All}
 use Rattle.std.specs.Option.{option_map_or}
 use Rattle.std.specs.List.{flat_map, range_with_len}
+use Rattle.flow_core_laws.specs.Limits.{positions_limit}
 use Rattle.flow_core_laws.specs.declared.elem.Elem.{Elem}
 use Rattle.flow_core_laws.specs.declared.plan.FramePlan.{FramePlan}
 use Rattle.flow_core_laws.specs.declared.plan.Piece.{Piece}
@@ -124,4 +125,4 @@ pub record IsLeft (layout : Layout) (frames : List ℕ) (sink : List Reach) (lef
 pub record CanLeave (layout : Layout) (frames : List ℕ) (sink : List Reach) : Type 0 where
   pub exist : All (λ (r : Reach). r.stream < length layout.writers) sink
   pub small : All (λ (r : Reach). r.first < 2 ^ 62) sink
-  pub few : reads_before layout frames (length frames) + total sink ≤ 4194304
+  pub few : reads_before layout frames (length frames) + total sink ≤ positions_limit

@@ -2,6 +2,7 @@
 use Rattle.std.specs.Prelude.{◌≡◌, ℕ, ◌+◌, ◌<◌, ◌≤◌, List, [], Option, Some, None, is_none, count_by, slice_index, slice_index_or, take, length, map, sum_by}
 use Rattle.std.specs.Option.{option_map_or}
 use Rattle.std.specs.List.{flat_map, range_with_len}
+use Rattle.flow_core_laws.specs.Limits.{activations_limit, positions_limit}
 use Rattle.flow_core_laws.specs.declared.plan.FramePlan.{FramePlan}
 use Rattle.flow_core_laws.specs.declared.plan.Piece.{Piece}
 use Rattle.flow_core_laws.specs.declared.plan.Plan.{Plan}
@@ -134,9 +135,9 @@ pub record WritesAt (layout : Layout) (weave : Weave) (stream position place fra
 -- spans lie within the outputs of their frames, no element that a frame writes is there at opening, and the frames are
 -- activations that ascend.
 pub record CanWeave (layout : Layout) (weave : Weave) : Type 0 where
-  pub frames_are_few : weave.frames ≤ 65536
-  pub cells_are_few : length (cells_of_first weave (weave.frames + 1)) ≤ 4194304
-  pub outputs_are_few : sum_by weave.outputs (range_with_len 0 weave.frames) ≤ 4194304
+  pub frames_are_few : weave.frames ≤ activations_limit
+  pub cells_are_few : length (cells_of_first weave (weave.frames + 1)) ≤ positions_limit
+  pub outputs_are_few : sum_by weave.outputs (range_with_len 0 weave.frames) ≤ positions_limit
   pub activations_are_of_frames : length weave.activations ≡ weave.frames
   pub activations_ascend : (f g : ℕ) → f < g → g < weave.frames → slice_index weave.activations f < slice_index weave.activations g
   pub numbers_exist : (a f : ℕ) → weave.number a ≡ Some f → f < weave.frames

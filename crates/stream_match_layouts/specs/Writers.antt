@@ -1,5 +1,6 @@
 -- The write spans of a stream, as a layout lists them.
 use Rattle.std.specs.Prelude.{◌≡◌, ℕ, ◌+◌, ◌^◌, ◌<◌, ◌≤◌, List, [], true, false, length, slice_index, slice_index_or}
+use Rattle.flow_core_laws.specs.Limits.{positions_limit}
 use Rattle.stream_match_layouts.specs.declared.span.Span.{Span}
 use Rattle.stream_match_layouts.specs.declared.layout.Layout.{Layout}
 
@@ -25,7 +26,7 @@ end_of span = span.first + span.count
 
 -- The write spans of a stream exist, and each begins where the one before it ends, or behind it.
 pub record HasWriters (layout : Layout) (stream : ℕ) : Type 0 where
-  pub few : length (writers_on layout stream) ≤ 4194304
+  pub few : length (writers_on layout stream) ≤ positions_limit
   pub exist : (place : ℕ) → place < length (writers_on layout stream) → slice_index (writers_on layout stream) place < length layout.spans
   pub write : (place : ℕ) → place < length (writers_on layout stream) → (writer_at layout stream place).write ≡ true
   pub on_stream : (place : ℕ) → place < length (writers_on layout stream) → (writer_at layout stream place).stream ≡ stream

@@ -2,6 +2,7 @@
 
 ghost use Rattle.std.specs.Prelude.{◌≡◌, ℕ, ◌+◌, ◌≤◌, length, sum_by};
 ghost use Rattle.std.specs.List.{list_all, filter};
+ghost use Rattle.flow_core_laws.specs.Limits.{budget_limit};
 ghost use Rattle.flow_core_laws.specs.Outcome.{outcome_of};
 ghost use Rattle.flow_core_laws.specs.declared.claim.Claim.{Claim as TheClaim};
 ghost use Rattle.flow_core_laws.specs.Streams.{output_count};
@@ -40,7 +41,7 @@ pub fn run_task(
     requires inputs { length inputs.now ≡ input_count activation.now }
     requires outputs { length outputs.old ≡ output_count activation.now }
     requires made { IsMadeFor (parts_of code.now) scratch.old }
-    requires budget { budget ≤ 1000000000 }
+    requires budget { budget ≤ budget_limit }
     // how it ends is the machine's meaning
     ensures end { result ≡ (task_outcome (parts_of code.now) activation.now inputs.now budget).end }
     ensures outputs { result ≡ TaskEnd.Done → outputs.new ≡ (task_outcome (parts_of code.now) activation.now inputs.now budget).outputs }

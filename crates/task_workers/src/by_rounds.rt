@@ -1,4 +1,5 @@
 ghost use Rattle.std.specs.Prelude.{◌≡◌, ◌≤◌, ◌+◌, IfOk, length, slice_range};
+ghost use Rattle.flow_core_laws.specs.Limits.{workers_limit};
 ghost use Rattle.flow_core_laws.specs.Outcome.{ends_of};
 ghost use Rattle.flow_core_laws.specs.Plans.{plan_meaning, sink_elements};
 ghost use Rattle.flow_core_laws.specs.IsSound.{IsSound};
@@ -26,7 +27,7 @@ pub fn execute_rounds<R: Threads + Sync, B: Bodies, G: Gate>(
     workers: u32,
     gate: &G,
 ) -> Result<Ends, Memory>
-    requires workers { (1 ≤ workers) × (workers ≤ 64) }
+    requires workers { (1 ≤ workers) × (workers ≤ workers_limit) }
     requires sound { IsSound plan.now }
     requires served { Serves plan.now (B.outcome bodies.now) (B.takes bodies.now) }
 

@@ -1,4 +1,5 @@
 ghost use Rattle.std.specs.Prelude.{◌≡◌, ◌<◌, ◌≤◌, ◌+◌, ◌/◌, max, OnOk, IfOk, All, length, sum_by, count_by, is_none, drop};
+ghost use Rattle.flow_core_laws.specs.Limits.{activations_limit, positions_limit, workers_limit};
 ghost use Rattle.flow_core_laws.specs.Outcome.{State};
 ghost use Rattle.flow_core_laws.specs.Plans.{plan_meaning};
 ghost use Rattle.flow_core_laws.specs.IsSound.{IsSound};
@@ -89,9 +90,9 @@ fn run_opened<R: Threads + Sync, B: Bodies<Scratch = S>, G: Gate, S: Send + Drop
     requires some_open { turn < length board.now.waits.opened.items }
     requires end_each { turn + length ends.old ≡ length board.now.waits.opened.items }
     requires room { length outputs.old ≡ room_of plan.now (drop turn board.now.waits.opened.items) }
-    requires few { room_of plan.now (drop turn board.now.waits.opened.items) ≤ 4194304 }
-    requires frames_are_few { length ends.old ≤ 65536 }
-    requires some { (0 < length workers.old) × (length workers.old ≤ 64) }
+    requires few { room_of plan.now (drop turn board.now.waits.opened.items) ≤ positions_limit }
+    requires frames_are_few { length ends.old ≤ activations_limit }
+    requires some { (0 < length workers.old) × (length workers.old ≤ workers_limit) }
     requires fitting { All (λ w. B.fits bodies.now w.scratch) workers.old }
     ensures results { OnOk result (AreResults plan.now (plan_meaning plan.now (B.outcome bodies.now))
         (drop turn board.now.waits.opened.items) ends.new outputs.new) }
@@ -123,7 +124,7 @@ fn run_round<R: Threads + Sync, B: Bodies<Scratch = S>, G: Gate, S: Send + Drop>
     requires some_open { turn < length board.old.waits.opened.items }
     requires room { (length ends.old ≡ length plan.now.frames)
         × (length outputs.old ≡ sum_by (λ p. p.outputs) plan.now.frames) }
-    requires some { (0 < length workers.old) × (length workers.old ≤ 64) }
+    requires some { (0 < length workers.old) × (length workers.old ≤ workers_limit) }
     requires fitting { All (λ w. B.fits bodies.now w.scratch) workers.old }
     ensures runs { IfOk result (λ next.
         IsRun plan.now (plan_meaning plan.now (B.outcome bodies.now)) board.new next) }
@@ -159,7 +160,7 @@ pub(crate) fn run_rounds<R: Threads + Sync, B: Bodies<Scratch = S>, G: Gate, S: 
     requires begins { IsRun plan.now (plan_meaning plan.now (B.outcome bodies.now)) board.old 0 }
     requires room { (length ends.old ≡ length plan.now.frames)
         × (length outputs.old ≡ sum_by (λ p. p.outputs) plan.now.frames) }
-    requires some { (0 < length workers.old) × (length workers.old ≤ 64) }
+    requires some { (0 < length workers.old) × (length workers.old ≤ workers_limit) }
     requires fitting { All (λ w. B.fits bodies.now w.scratch) workers.old }
     ensures { OnOk result (IsRun plan.now (plan_meaning plan.now (B.outcome bodies.now))
         board.new (length board.new.waits.opened.items)) }

@@ -1,5 +1,6 @@
 //! How a crew gets what it works with.
 ghost use Rattle.std.specs.Prelude.{◌≡◌, ◌+◌, ◌≤◌, ◌<◌, [], All, IfOk, length};
+ghost use Rattle.flow_core_laws.specs.Limits.{activations_limit, workers_limit};
 ghost use Rattle.flow_core_laws.specs.IsSound.{IsSound};
 ghost use Rattle.steal_pool.specs.Hands.{AreInRing};
 ghost use Rattle.task_workers_crew.specs.Crew.{TakesFrom, IsEquipped};
@@ -38,7 +39,7 @@ fn deal_one(plan: &Plan, hands: &mut [Hand], frame: u32, turn: usize) -> usize
 
 // Gives the frames that are Open at opening to the hands in turn.
 fn spread(plan: &Plan, hands: &mut [Hand])
-    requires few { length plan.now.frames ≤ 65536 }
+    requires few { length plan.now.frames ≤ activations_limit }
     requires none_yet { AreDealtBelow plan.now 0 0 hands.old }
     ensures same { length hands.new ≡ length hands.old }
     ensures room { All (λ h. TakesFrom plan.now (length plan.now.frames) h) hands.new }
@@ -53,8 +54,8 @@ fn spread(plan: &Plan, hands: &mut [Hand])
 
 // A hand for each worker, with the frames that are Open at opening.
 fn dealt(alloc: Global, plan: &Plan, workers: u32) -> Result<Vec<Hand>, Memory>
-    requires few { length plan.now.frames ≤ 65536 }
-    requires workers { (1 ≤ workers) × (workers ≤ 64) }
+    requires few { length plan.now.frames ≤ activations_limit }
+    requires workers { (1 ≤ workers) × (workers ≤ workers_limit) }
     ensures all { IfOk result (λ v. length v.items ≡ workers) }
     ensures room { IfOk result (λ v. All (λ h. TakesFrom plan.now (length plan.now.frames) h) v.items) }
     ensures dealt { IfOk result (λ v. AreDealt plan.now v.items) }
@@ -74,7 +75,7 @@ fn equip<B: Bodies>(
     number: u32,
     hand: Hand,
 ) -> Result<Worker<B::Scratch>, Memory>
-    requires few { length plan.now.frames ≤ 65536 }
+    requires few { length plan.now.frames ≤ activations_limit }
     requires hand { TakesFrom plan.now (length plan.now.frames) hand }
     ensures equipped { IfOk result (λ w. IsEquipped plan.now w.hand w.log) }
     ensures hand { IfOk result (λ w. w.hand ≡ hand) }
@@ -101,7 +102,7 @@ pub fn hire<B: Bodies>(
     workers: u32,
 ) -> Result<Vec<Worker<B::Scratch>>, Memory>
     requires sound { IsSound plan.now }
-    requires workers { (1 ≤ workers) × (workers ≤ 64) }
+    requires workers { (1 ≤ workers) × (workers ≤ workers_limit) }
     ensures all { IfOk result (λ crew. length crew.items ≡ workers) }
     ensures equipped { IfOk result (λ crew. All (λ w. IsEquipped plan.now w.hand w.log) crew.items) }
     ensures fits { IfOk result (λ crew. All (λ w. B.fits bodies.now w.scratch) crew.items) }

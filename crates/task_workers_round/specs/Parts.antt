@@ -1,6 +1,7 @@
 -- What a part of a round is run with.
 use Rattle.std.specs.Prelude.{◌≡◌, ℕ, ℤ, ◌<◌, ◌≤◌, List, All, length}
 use Rattle.flow_core.specs.declared.board.Board.{Board}
+use Rattle.flow_core_laws.specs.Limits.{activations_limit, positions_limit, workers_limit}
 use Rattle.flow_core_laws.specs.declared.outcome.Outcome.{Outcome}
 use Rattle.flow_core_laws.specs.declared.plan.Plan.{Plan}
 use Rattle.flow_core_laws.specs.declared.task_end.TaskEnd.{TaskEnd}
@@ -26,8 +27,8 @@ pub record IsPart {W : Type 0} (plan : Plan) (waits : Waits) (fits : W → Type 
   pub may_run : All (MayRun plan waits) frames
   pub end_each : length ends ≡ length frames
   pub room : length outputs ≡ room_of plan frames
-  pub few : room_of plan frames ≤ 4194304
-  pub frames_are_few : length frames ≤ 65536
+  pub few : room_of plan frames ≤ positions_limit
+  pub frames_are_few : length frames ≤ activations_limit
   pub some : 0 < length workers
-  pub at_most : length workers ≤ 64
+  pub at_most : length workers ≤ workers_limit
   pub fitting : All fits workers

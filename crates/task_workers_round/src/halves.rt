@@ -1,5 +1,6 @@
 ghost use Rattle.std.specs.Prelude.{◌≡◌, ◌<◌, ◌≤◌, All, OnOk, length};
 ghost use denote.Param.Send.{IsSync, IsSend};
+ghost use Rattle.flow_core_laws.specs.Limits.{activations_limit, positions_limit, workers_limit};
 ghost use Rattle.flow_core_laws.specs.Plans.{plan_meaning};
 ghost use Rattle.flow_core_laws.specs.IsSound.{IsSound};
 ghost use Rattle.flow_core_laws.specs.Serves.{Serves};
@@ -44,9 +45,9 @@ pub fn run_by<R: Threads + Sync, B: Bodies<Scratch = S>, G: Gate, S: Send + Drop
     requires may_run { All (MayRun plan.now board.now.waits) frames.now }
     requires end_each { length ends.old ≡ length frames.now }
     requires room { length outputs.old ≡ room_of plan.now frames.now }
-    requires few { room_of plan.now frames.now ≤ 4194304 }
-    requires frames_are_few { length frames.now ≤ 65536 }
-    requires some { (0 < length workers.old) × (length workers.old ≤ 64) }
+    requires few { room_of plan.now frames.now ≤ positions_limit }
+    requires frames_are_few { length frames.now ≤ activations_limit }
+    requires some { (0 < length workers.old) × (length workers.old ≤ workers_limit) }
     requires fitting { All (λ w. B.fits bodies.now w.scratch) workers.old }
     ensures results { OnOk result (AreResults plan.now (plan_meaning plan.now (B.outcome bodies.now))
         frames.now ends.new outputs.new) }
@@ -127,8 +128,8 @@ fn sent_off(workers: usize) -> usize
 
 /// How many of the frames so many of the workers run.
 fn share_of(frames: usize, some: usize, workers: usize) -> usize
-    requires frames { frames ≤ 65536 }
-    requires workers { (some ≤ workers) × (0 < workers) × (workers ≤ 64) }
+    requires frames { frames ≤ activations_limit }
+    requires workers { (some ≤ workers) × (0 < workers) × (workers ≤ workers_limit) }
     ensures { result ≤ frames }
 {
     frames * some / workers

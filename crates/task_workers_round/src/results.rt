@@ -1,4 +1,5 @@
 ghost use Rattle.std.specs.Prelude.{◌≡◌, ◌≤◌, ◌+◌, All, IfOk, length, sum_by};
+ghost use Rattle.flow_core_laws.specs.Limits.{positions_limit};
 ghost use Rattle.flow_core_laws.specs.IsSound.{IsSound};
 ghost use Rattle.task_workers_round.specs.Results.{room_of};
 
@@ -56,7 +57,7 @@ pub fn most_outputs(plan: &Plan) -> usize
 
 /// How many elements these frames write together.
 pub fn outputs_of(plan: &Plan, frames: &[u32]) -> usize
-    requires { room_of plan.now frames.now ≤ 4194304 }
+    requires { room_of plan.now frames.now ≤ positions_limit }
     ensures { result ≡ room_of plan.now frames.now }
 {
     let mut count = 0;

@@ -1,4 +1,5 @@
 ghost use Rattle.std.specs.Prelude.{◌≡◌, ◌≤◌, ◌<◌, ℕ, [], IfOk, length};
+ghost use Rattle.flow_core_laws.specs.Limits.{activations_limit};
 ghost use Rattle.flow_core_laws.specs.Plans.{frame_at};
 ghost use Rattle.task_workers_worker.specs.Logs.{FitsWindows};
 
@@ -21,7 +22,7 @@ pub struct WorkLog {
 
 // The greatest number of inputs of a frame.
 fn most_inputs(plan: &Plan) -> u32
-    requires few { length plan.now.frames ≤ 65536 }
+    requires few { length plan.now.frames ≤ activations_limit }
     ensures { (f : ℕ) → f < length plan.now.frames → (frame_at plan.now f).inputs ≤ result }
 {
     let mut most = 0;
@@ -33,7 +34,7 @@ fn most_inputs(plan: &Plan) -> u32
 
 // The greatest number of outputs of a frame.
 fn most_outputs(plan: &Plan) -> u32
-    requires few { length plan.now.frames ≤ 65536 }
+    requires few { length plan.now.frames ≤ activations_limit }
     ensures { (f : ℕ) → f < length plan.now.frames → (frame_at plan.now f).outputs ≤ result }
 {
     let mut most = 0;
@@ -46,7 +47,7 @@ fn most_outputs(plan: &Plan) -> u32
 impl WorkLog {
     /// An empty log with room for all frames of the plan, and for the windows of each.
     pub fn new(alloc: Global, plan: &Plan, worker: u32) -> Result<WorkLog, Memory>
-        requires few { length plan.now.frames ≤ 65536 }
+        requires few { length plan.now.frames ≤ activations_limit }
         ensures worker { IfOk result (λ log. log.worker ≡ worker) }
         ensures empty { IfOk result (λ log. log.frames.items ≡ []) }
         ensures frames { IfOk result (λ log. length plan.now.frames ≤ log.frames.spare) }

@@ -1,5 +1,6 @@
 //! What is answered behind the heads that could run.
 ghost use Rattle.std.specs.Prelude.{◌≡◌, ◌≢◌, ◌<◌, ◌≤◌, ◌+◌, ℕ, None, Some, All, IfSome, IfNone, IsSome, true, false, length, slice_index};
+ghost use Rattle.flow_core_laws.specs.Limits.{activations_limit, workers_limit};
 ghost use Rattle.flow_core_laws.specs.Plans.{frame_at, held_at};
 ghost use Rattle.flow_core_laws.specs.IsSound.{IsSound, HasCell};
 ghost use Rattle.flow_core.specs.Counted.{IsCounted};
@@ -13,7 +14,7 @@ use os_io::List;
 
 /// The first list that isn't used up, and its head.
 pub(crate) fn first_left(lists: &[List<u32>], places: &[usize]) -> Option<(u32, u32)>
-    requires few { length lists.now ≤ 64 }
+    requires few { length lists.now ≤ workers_limit }
     requires places { length places.now ≡ length lists.now }
     ensures some { IfSome result (λ it. IsFirstLeft lists.now places.now it.0 it.1) }
     ensures none { IfNone result ((k : ℕ) → k < length lists.now → number_in lists.now k (slice_index places.now k) ≡ None) }
@@ -58,7 +59,7 @@ fn may_run(board: &Board, frame: usize) -> bool
 
 /// The least frame that misses nothing and didn't run.
 pub(crate) fn first_free(board: &Board, plan: &Plan) -> Option<u32>
-    requires few { length plan.now.frames ≤ 65536 }
+    requires few { length plan.now.frames ≤ activations_limit }
     requires waits { length board.now.waits.missing.items ≡ length plan.now.frames }
     requires ends { length board.now.ends.items ≡ length plan.now.frames }
     ensures some { IfSome result (λ frame. IsLeastFree plan.now board.now frame) }

@@ -1,5 +1,6 @@
 //! Numbers in lists.
 ghost use Rattle.std.specs.Prelude.{◌≡◌, ◌+◌, ◌<◌, ◌≤◌, ◌^◌, ℕ, All, IfSome, IfNone, length, slice_index};
+ghost use Rattle.flow_core_laws.specs.Limits.{workers_limit};
 ghost use Rattle.trace_replay_laws.specs.Lists.{number_in, AreBelow, IsFirstStranger};
 
 use os_io::List;
@@ -20,7 +21,7 @@ fn first_not_below(frames: usize, list: &[u32]) -> Option<usize>
 
 /// The list and the place there of the first number that isn't below a bound.
 pub(crate) fn first_stranger(frames: usize, lists: &[List<u32>]) -> Option<(u32, u32)>
-    requires few { length lists.now ≤ 64 }
+    requires few { length lists.now ≤ workers_limit }
     requires short { All (λ list. length list < 2 ^ 32) lists.now }
     ensures some { IfSome result (λ it. IsFirstStranger frames lists.now it.0 it.1) }
     ensures none { IfNone result (AreBelow frames lists.now) }

@@ -1,5 +1,6 @@
 //! Which list a frame stands in.
 ghost use Rattle.std.specs.Prelude.{◌≡◌, ◌+◌, ◌≤◌, ◌<◌, IfOk, IfSome, IfNone, length};
+ghost use Rattle.flow_core_laws.specs.Limits.{workers_limit};
 ghost use Rattle.trace_replay_laws.specs.Lists.{AreBelow, IsFirstRepeat};
 ghost use Rattle.trace_replay.specs.Owners.{AreOwnersOf, OwnBefore};
 
@@ -20,7 +21,7 @@ pub(crate) enum Owners {
 
 /// Makes a list the owner of its numbers. It answers the first one that has an owner.
 fn own(owners: &mut [u32], lists: &[List<u32>], list: usize) -> Option<u32>
-    requires few { length lists.now ≤ 64 }
+    requires few { length lists.now ≤ workers_limit }
     requires exists { list < length lists.now }
     requires below { AreBelow (length owners.old) lists.now }
     requires so_far { OwnBefore lists.now list 0 owners.old }
@@ -41,7 +42,7 @@ fn own(owners: &mut [u32], lists: &[List<u32>], list: usize) -> Option<u32>
 
 /// Which list each of so many frames stands in.
 pub(crate) fn owners_of(alloc: Global, frames: usize, lists: &[List<u32>]) -> Result<Owners, Memory>
-    requires few { length lists.now ≤ 64 }
+    requires few { length lists.now ≤ workers_limit }
     requires below { AreBelow frames lists.now }
     ensures { IfOk result (AreOwnersOf lists.now frames) }
 {

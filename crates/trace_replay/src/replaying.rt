@@ -1,4 +1,5 @@
 ghost use Rattle.std.specs.Prelude.{◌≡◌, ◌≢◌, ◌+◌, ◌<◌, ◌≤◌, ◌^◌, ℕ, Some, All, IfOk, OnOk, IfSome, IfNone, length, slice_index};
+ghost use Rattle.flow_core_laws.specs.Limits.{workers_limit};
 ghost use Rattle.flow_core_laws.specs.IsSound.{IsSound};
 ghost use Rattle.flow_core_laws.specs.Serves.{Serves};
 ghost use Rattle.flow_core.specs.Waits.{OpensMore};
@@ -138,7 +139,7 @@ fn answer<B: Bodies>(
     places: &[usize],
 ) -> Result<Replayed, Memory>
     requires sound { IsSound plan.now }
-    requires lists { length lists.now ≤ 64 }
+    requires lists { length lists.now ≤ workers_limit }
     requires frames { AreFrames plan.now (B.outcome bodies.now) lists.now }
     requires stands { Stands plan.now (B.outcome bodies.now) lists.now places.now board.now }
     requires waits { (k : ℕ) → k < length lists.now → HeadWaits lists.now places.now board.now k }
@@ -165,7 +166,7 @@ fn replay_frames<B: Bodies>(
 ) -> Result<Replayed, Memory>
     requires sound { IsSound plan.now }
     requires served { Serves plan.now (B.outcome bodies.now) (B.takes bodies.now) }
-    requires lists { length lists.now ≤ 64 }
+    requires lists { length lists.now ≤ workers_limit }
     requires frames { AreFrames plan.now (B.outcome bodies.now) lists.now }
     requires owners { AreOwners lists.now (length plan.now.frames) owners.now }
     ensures { IfOk result (IsAnswer plan.now (B.outcome bodies.now) lists.now) }
@@ -198,7 +199,7 @@ pub fn replay<B: Bodies>(
 ) -> Result<Replayed, Memory>
     requires sound { IsSound plan.now }
     requires served { Serves plan.now (B.outcome bodies.now) (B.takes bodies.now) }
-    requires lists { (1 ≤ length lists.now) × (length lists.now ≤ 64) }
+    requires lists { (1 ≤ length lists.now) × (length lists.now ≤ workers_limit) }
     requires short { All (λ list. length list < 2 ^ 32) lists.now }
     ensures { IfOk result (IsAnswer plan.now (B.outcome bodies.now) lists.now) }
 {
