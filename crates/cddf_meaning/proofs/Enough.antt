@@ -2,16 +2,16 @@
 use Rattle.std.proofs.Common.{◌≡◌, ℕ, zero, suc, ◌≤◌, Bool, true, false, if◌then◌else◌, Ok, Err, ℤ, arith, refl}
 use Rattle.c_int.specs.Operators.{is_zero}
 use Rattle.cddf_meaning.specs.Answers.{Answer, Left}
-use Rattle.cddf_meaning.specs.Flow.{Ran, Went, Ended, Runs, given, goes_on, flows, loops}
+use Rattle.cddf_meaning.specs.Flow.{Ran, Went, Ended, Runs, with_value, goes_on, flows, loops}
 use Rattle.cddf_meaning.specs.Moves.{Falls, Keeps}
 use Rattle.cddf_meaning.specs.Run.{loop}
 use Rattle.cddf_meaning.specs.BodyState.{BodyState}
 use Rattle.cddf_meaning.specs.declared.flow.Flow.TheVariants.{GoesOn, Breaks, Continues, Returns}
 
-pub given-same : (s : BodyState) (turns : ℕ) (a : Answer (Left ℤ)) (f g : Left ℤ → Ran) → Falls turns a →
-    ((n : Left ℤ) → n.turns ≤ turns → f n ≡ g n) → given a s f ≡ given a s g
-given-same s turns (Err ending) f g h e = refl
-given-same s turns (Ok n) f g h e = e n h
+pub with_value-same : (s : BodyState) (turns : ℕ) (a : Answer (Left ℤ)) (f g : Left ℤ → Ran) → Falls turns a →
+    ((n : Left ℤ) → n.turns ≤ turns → f n ≡ g n) → with_value a s f ≡ with_value a s g
+with_value-same s turns (Err ending) f g h e = refl
+with_value-same s turns (Ok n) f g h e = e n h
 
 pub if-same : (t : Bool) (a b c : Ran) → b ≡ c → (if t then a else b) ≡ (if t then a else c)
 if-same true a b c e = refl
@@ -43,7 +43,7 @@ loop-enough (suc most) zero test body step ft kb ks s (suc turns) m o = search (
 loop-enough (suc most) (suc other) test body step ft kb ks s (suc turns) m o =
     let f : Runs = λ s turns. flows (loop most test body step) (step s turns) in
     let g : Runs = λ s turns. flows (loop other test body step) (step s turns) in
-    given-same s turns (test s turns) (λ n. if is_zero n.value then goes_on s n.turns else loops f (body s n.turns))
+    with_value-same s turns (test s turns) (λ n. if is_zero n.value then goes_on s n.turns else loops f (body s n.turns))
     (λ n. if is_zero n.value then goes_on s n.turns else loops g (body s n.turns)) (ft s turns)
     (λ n h. if-same (is_zero n.value) (goes_on s n.turns) (loops f (body s n.turns)) (loops g (body s n.turns))
     (loops-same s n.turns f g (body s n.turns) (kb s n.turns)

@@ -7,7 +7,7 @@ use Rattle.cddf_meaning.specs.Answers.{Answer, Left, and_then, left, with_turns,
 use Rattle.cddf_meaning.specs.Claims.{limit}
 use Rattle.cddf_meaning.specs.Exact.{Spends, IsExact, SpendsIn, RunsExactly}
 use Rattle.cddf_meaning.specs.File.{File, variable, type_in}
-use Rattle.cddf_meaning.specs.Flow.{Ran, Went, Ended, Runs, given, goes_on, flows, loops, left_from, left_state}
+use Rattle.cddf_meaning.specs.Flow.{Ran, Went, Ended, Runs, with_value, goes_on, flows, loops, left_from, left_state}
 use Rattle.cddf_meaning.specs.Moves.{Falls, CallsFall, Keeps}
 use Rattle.cddf_meaning.specs.Operators.{binary_value, step_operator}
 use Rattle.cddf_meaning.specs.Run.{Around, loop, assigned, aim_at, old_value, after_store, changed, run_change, run_scalar, run_array, run_window, window_size, with_streams, run_streams, run_unsized_or, run_declarator, run_declarators, run_start, run_test, run_step, run, run_all, array_size, target_type}
@@ -29,7 +29,7 @@ use Rattle.os_ast.specs.ClauseParts.{parts}
 use Rattle.os_ast.specs.Trees as tree
 use Rattle.os_ast.specs.declared.expr.Mark.{Mark}
 use Rattle.os_ast.specs.declared.names.Direction.{Direction}
-use Rattle.cddf_meaning.proofs.Enough.{given-same, if-same, flows-same, loops-same, loop-enough}
+use Rattle.cddf_meaning.proofs.Enough.{with_value-same, if-same, flows-same, loops-same, loop-enough}
 use Rattle.cddf_meaning.proofs.Falls.{value-falls}
 use Rattle.cddf_meaning.proofs.Keeps.{keeps-on, test-falls, step-keeps, run-keeps}
 use Rattle.cddf_meaning.proofs.Exact.{CallsExact, stays-always, stays-made, stays-behind, exact-here, exact-with, exact-then, value-exact, values-exact, call-exact}
@@ -54,43 +54,43 @@ runs-if true f g turns a b = a
 runs-if false f g turns a b = b
 
 -- an answer, and what follows it
-given-enough : {A : Type 0} (f : ℕ → Answer (Left A)) (s : BodyState) (next : Left A → Ran) (a b more : ℕ) (v : A) (flow : Flow) (t : BodyState) →
+with_value-enough : {A : Type 0} (f : ℕ → Answer (Left A)) (s : BodyState) (next : Left A → Ran) (a b more : ℕ) (v : A) (flow : Flow) (t : BodyState) →
     f (a + (b + more)) ≡ Ok (left v (b + more)) → next (left v (b + more)) ≡ Went flow t more →
-    given (f (a + b + more)) s next ≡ Went flow t more
-given-enough f s next a b more v flow t first second =
+    with_value (f (a + b + more)) s next ≡ Went flow t more
+with_value-enough f s next a b more v flow t first second =
     let sums : a + b + more ≡ a + (b + more) = omega arith in
-    ap (λ k. given (f k) s next) sums ∙ (ap (λ x. given x s next) first ∙ second)
+    ap (λ k. with_value (f k) s next) sums ∙ (ap (λ x. with_value x s next) first ∙ second)
 
-given-fewer : {A : Type 0} (f : ℕ → Answer (Left A)) (s : BodyState) (next : Left A → Ran) (a b less : ℕ) (v : A) →
+with_value-fewer : {A : Type 0} (f : ℕ → Answer (Left A)) (s : BodyState) (next : Left A → Ran) (a b less : ℕ) (v : A) →
     ((k : ℕ) → f (a + k) ≡ Ok (left v k)) → ((k : ℕ) → k < a → f k ≡ over) → ((k : ℕ) → k < b → IsOver (next (left v k))) →
-    less < a + b → (less < a) ⊎ (a ≤ less) → IsOver (given (f less) s next)
-given-fewer f s next a b less v enough fewer behind h (inl lt) = (s.activations, ap (λ x. given x s next) (fewer less lt))
-given-fewer f s next a b less v enough fewer behind h (inr ge) =
+    less < a + b → (less < a) ⊎ (a ≤ less) → IsOver (with_value (f less) s next)
+with_value-fewer f s next a b less v enough fewer behind h (inl lt) = (s.activations, ap (λ x. with_value x s next) (fewer less lt))
+with_value-fewer f s next a b less v enough fewer behind h (inr ge) =
     let sums : less ≡ a + (less - a) = omega (arith, ge) in
     let (made, is) = behind (less - a) (omega (arith, h, ge)) in
-    (made, ap (λ k. given (f k) s next) sums ∙ (ap (λ x. given x s next) (enough (less - a)) ∙ is))
+    (made, ap (λ k. with_value (f k) s next) sums ∙ (ap (λ x. with_value x s next) (enough (less - a)) ∙ is))
 
-given-behind : {A : Type 0} (f : ℕ → Answer (Left A)) (s : BodyState) (next : Left A → Ran) (turns : ℕ) (n : Left A) →
-    Spends A f turns n → (b : Ran) → RunsExactly (λ t. next (left n.value t)) n.turns b → RunsExactly (λ t. given (f t) s next) turns b
-given-behind f s next turns n e (Ended ending made) r =
-    stays-behind (λ t. given (f t) s next) (λ t. next (left n.value t)) turns e.spent n.turns ending (Ended ending made) e.all
-    (λ k. ap (λ x. given x s next) (e.enough k)) r
-given-behind f s next turns n e (Went flow t rest) r = record {
+with_value-behind : {A : Type 0} (f : ℕ → Answer (Left A)) (s : BodyState) (next : Left A → Ran) (turns : ℕ) (n : Left A) →
+    Spends A f turns n → (b : Ran) → RunsExactly (λ t. next (left n.value t)) n.turns b → RunsExactly (λ t. with_value (f t) s next) turns b
+with_value-behind f s next turns n e (Ended ending made) r =
+    stays-behind (λ t. with_value (f t) s next) (λ t. next (left n.value t)) turns e.spent n.turns ending (Ended ending made) e.all
+    (λ k. ap (λ x. with_value x s next) (e.enough k)) r
+with_value-behind f s next turns n e (Went flow t rest) r = record {
   spent = e.spent + r.spent;
   all = omega (arith, e.all, r.all);
-  enough = λ more. given-enough f s next e.spent r.spent more n.value flow t (e.enough (r.spent + more)) (r.enough more);
-  fewer = λ less h. given-fewer f s next e.spent r.spent less n.value e.enough e.fewer r.fewer h (cases_lt less e.spent);
+  enough = λ more. with_value-enough f s next e.spent r.spent more n.value flow t (e.enough (r.spent + more)) (r.enough more);
+  fewer = λ less h. with_value-fewer f s next e.spent r.spent less n.value e.enough e.fewer r.fewer h (cases_lt less e.spent);
 }
 
-given-exact : {A : Type 0} (f : ℕ → Answer (Left A)) (s : BodyState) (next : Left A → Ran) (turns : ℕ) (a : Answer (Left A)) → IsExact A f turns a →
-    ((n : Left A) → n.turns ≤ turns → RunsExactly (λ t. next (left n.value t)) n.turns (next n)) → RunsExactly (λ t. given (f t) s next) turns (given a s next)
-given-exact f s next turns (Err ending) e rest = stays-made (λ x. given x s next) f turns ending (Err ending) (Ended ending s.activations) refl e
-given-exact f s next turns (Ok n) e rest = given-behind f s next turns n e (next n) (rest n (omega (arith, e.all)))
+with_value-exact : {A : Type 0} (f : ℕ → Answer (Left A)) (s : BodyState) (next : Left A → Ran) (turns : ℕ) (a : Answer (Left A)) → IsExact A f turns a →
+    ((n : Left A) → n.turns ≤ turns → RunsExactly (λ t. next (left n.value t)) n.turns (next n)) → RunsExactly (λ t. with_value (f t) s next) turns (with_value a s next)
+with_value-exact f s next turns (Err ending) e rest = stays-made (λ x. with_value x s next) f turns ending (Err ending) (Ended ending s.activations) refl e
+with_value-exact f s next turns (Ok n) e rest = with_value-behind f s next turns n e (next n) (rest n (omega (arith, e.all)))
 
-given-plain : {A : Type 0} (a : Answer A) (s : BodyState) (next : A → ℕ → Ran) (turns : ℕ) → ((v : A) → RunsExactly (next v) turns (next v turns)) →
-    RunsExactly (λ t. given a s (λ v. next v t)) turns (given a s (λ v. next v turns))
-given-plain (Err ending) s next turns rest = stays-always _ turns ending (Ended ending s.activations) (λ k. refl)
-given-plain (Ok v) s next turns rest = rest v
+with_value-plain : {A : Type 0} (a : Answer A) (s : BodyState) (next : A → ℕ → Ran) (turns : ℕ) → ((v : A) → RunsExactly (next v) turns (next v turns)) →
+    RunsExactly (λ t. with_value a s (λ v. next v t)) turns (with_value a s (λ v. next v turns))
+with_value-plain (Err ending) s next turns rest = stays-always _ turns ending (Ended ending s.activations) (λ k. refl)
+with_value-plain (Ok v) s next turns rest = rest v
 
 -- a statement, and what follows it: `join` is `flows` or `loops`, where it goes on in a way
 joined-enough : (join : Ran → Ran) (f : ℕ → Ran) (next : ℕ → Ran) (a b more : ℕ) (first last : Flow) (s t : BodyState) →
@@ -178,7 +178,7 @@ again test body step s turns = loop turns test body step s turns
 
 abbrev turn-of : (test : BodyState → ℕ → Answer (Left ℤ)) (body step : Runs) → Runs
 turn-of test body step s turns =
-    given (test s turns) s
+    with_value (test s turns) s
     (λ n. if is_zero n.value then goes_on s n.turns
     else loops (λ s turns. flows (again test body step) (step s turns)) (body s n.turns))
 
@@ -188,7 +188,7 @@ loop-turn : (test : BodyState → ℕ → Answer (Left ℤ)) (body step : Runs) 
 loop-turn test body step ft kb ks s turns =
     let f : Runs = λ s left. flows (loop turns test body step) (step s left) in
     let g : Runs = λ s left. flows (again test body step) (step s left) in
-    given-same s turns (test s turns) (λ n. if is_zero n.value then goes_on s n.turns else loops f (body s n.turns))
+    with_value-same s turns (test s turns) (λ n. if is_zero n.value then goes_on s n.turns else loops f (body s n.turns))
     (λ n. if is_zero n.value then goes_on s n.turns else loops g (body s n.turns)) (ft s turns)
     (λ n h. if-same (is_zero n.value) (goes_on s n.turns) (loops f (body s n.turns)) (loops g (body s n.turns))
     (loops-same s n.turns f g (body s n.turns) (kb s n.turns)
@@ -206,7 +206,7 @@ loop-exact test body step ft kb ks et eb es zero s (suc turns) h = absurd (omega
 loop-exact test body step ft kb ks et eb es (suc bound) s (suc turns) h =
     let next : Runs = λ s left. flows (again test body step) (step s left) in
     let turn : RunsExactly (turn-of test body step s) turns (turn-of test body step s turns) =
-    given-exact (test s) s (λ n. if is_zero n.value then goes_on s n.turns else loops next (body s n.turns)) turns (test s turns) (et s turns)
+    with_value-exact (test s) s (λ n. if is_zero n.value then goes_on s n.turns else loops next (body s n.turns)) turns (test s turns) (et s turns)
     (λ n i. runs-if (is_zero n.value) (goes_on s) (λ left. loops next (body s left)) n.turns (went-exact GoesOn s n.turns)
     (loops-exact next (body s) n.turns (body s n.turns) (eb s n.turns)
     (λ t left j. flows-exact (again test body step) (step t) left (step t left) (es t left)
@@ -233,10 +233,10 @@ changed-exact : (file : File) → CallsExact file → (t : tree.TargetTree) (rig
     ((old : ℤ) (s : BodyState) (turns : ℕ) → IsExact ℤ (right old s) turns (right old s turns)) → (s : BodyState) (turns : ℕ) →
     RunsExactly (changed file t right s) turns (changed file t right s turns)
 changed-exact file calls t right e s turns =
-    given-exact (aim_at file t s) s
-    (λ a. given (right (old_value file s a.value) s a.turns) s (λ v. goes_on (after_store s a.value v.value) v.turns)) turns (aim_at file t s turns)
+    with_value-exact (aim_at file t s) s
+    (λ a. with_value (right (old_value file s a.value) s a.turns) s (λ v. goes_on (after_store s a.value v.value) v.turns)) turns (aim_at file t s turns)
     (aim-exact file calls t s turns)
-    (λ a i. given-exact (right (old_value file s a.value) s) s (λ v. goes_on (after_store s a.value v.value) v.turns) a.turns
+    (λ a i. with_value-exact (right (old_value file s a.value) s) s (λ v. goes_on (after_store s a.value v.value) v.turns) a.turns
     (right (old_value file s a.value) s a.turns) (e (old_value file s a.value) s a.turns)
     (λ v j. went-exact GoesOn (after_store s a.value v.value) v.turns))
 
@@ -257,9 +257,9 @@ change-exact file calls (tree.Before t p m) s turns =
 
 valued-exact : (file : File) → CallsExact file → (e : tree.ExprTree) (s : BodyState) (turns : ℕ) (next : Left ℤ → Ran) →
     ((n : Left ℤ) → RunsExactly (λ t. next (left n.value t)) n.turns (next n)) →
-    RunsExactly (λ t. given (value file e s t) s next) turns (given (value file e s turns) s next)
+    RunsExactly (λ t. with_value (value file e s t) s next) turns (with_value (value file e s turns) s next)
 valued-exact file calls e s turns next k =
-    given-exact (value file e s) s next turns (value file e s turns) (value-exact file calls e s turns) (λ n i. k n)
+    with_value-exact (value file e s) s next turns (value file e s turns) (value-exact file calls e s turns) (λ n i. k n)
 
 scalar-exact : (file : File) → CallsExact file → (w : Bool) (id : ℕ) (first : Option tree.ExprTree) (s : BodyState) (turns : ℕ) →
     RunsExactly (run_scalar file w id first s) turns (run_scalar file w id first s turns)
@@ -285,8 +285,8 @@ window-exact : (file : File) → CallsExact file → (w : Bool) (id : ℕ) (i : 
     RunsExactly (run_window file w id i s) turns (run_window file w id i s turns)
 window-exact file calls w id i s turns =
     valued-exact file calls i.value s turns
-    (λ n. given (window_size i.mark.line n.value) s (λ horizon. goes_on (declared id w (Window horizon) s) n.turns))
-    (λ n. given-plain (window_size i.mark.line n.value) s (λ horizon. goes_on (declared id w (Window horizon) s)) n.turns
+    (λ n. with_value (window_size i.mark.line n.value) s (λ horizon. goes_on (declared id w (Window horizon) s) n.turns))
+    (λ n. with_value-plain (window_size i.mark.line n.value) s (λ horizon. goes_on (declared id w (Window horizon) s)) n.turns
     (λ horizon. went-exact GoesOn (declared id w (Window horizon) s) n.turns))
 
 array-exact : (file : File) → CallsExact file → (w : Bool) (id : ℕ) (size : tree.ExprTree) (s : BodyState) (turns : ℕ) →
@@ -380,7 +380,7 @@ task-exact : (file : File) → CallsExact file → (sites : List Site) (number :
     RunsExactly (run_task file sites number ps s) turns (run_task file sites number ps s turns)
 task-exact file calls sites None ps s turns = went-exact GoesOn s turns
 task-exact file calls sites (Some number) ps s turns =
-    given-exact (items_claims file ps s) s
+    with_value-exact (items_claims file ps s) s
     (λ c. unless_limited (limit s.activations c.value) s c.turns (with_activation file number (captured_by sites number) c.value s)) turns
     (items_claims file ps s turns) (items-exact file calls ps s turns)
     (λ c i. limited-exact (limit s.activations c.value) s (with_activation file number (captured_by sites number) c.value s) c.turns)
@@ -394,12 +394,12 @@ turn-exact stream amount s (suc turns) =
 tick-exact : (file : File) → CallsExact file → (t : tree.TargetTree) (arrow : Mark) (e : tree.ExprTree) (s : BodyState) (turns : ℕ) →
     RunsExactly (run_tick file t arrow e s) turns (run_tick file t arrow e s turns)
 tick-exact file calls t arrow e s turns =
-    given-exact (stream_number file t s) s
-    (λ n. given (value file e s n.turns) s
-    (λ v. given (cursor_move arrow.line v.value) s (λ amount. tick_turn n.value amount s v.turns))) turns (stream_number file t s turns)
+    with_value-exact (stream_number file t s) s
+    (λ n. with_value (value file e s n.turns) s
+    (λ v. with_value (cursor_move arrow.line v.value) s (λ amount. tick_turn n.value amount s v.turns))) turns (stream_number file t s turns)
     (number-exact file calls t s turns)
-    (λ n i. valued-exact file calls e s n.turns (λ v. given (cursor_move arrow.line v.value) s (λ amount. tick_turn n.value amount s v.turns))
-    (λ v. given-plain (cursor_move arrow.line v.value) s (λ amount. tick_turn n.value amount s) v.turns
+    (λ n i. valued-exact file calls e s n.turns (λ v. with_value (cursor_move arrow.line v.value) s (λ amount. tick_turn n.value amount s v.turns))
+    (λ v. with_value-plain (cursor_move arrow.line v.value) s (λ amount. tick_turn n.value amount s) v.turns
     (λ amount. turn-exact n.value amount s v.turns)))
 
 mutual
@@ -410,7 +410,7 @@ mutual
   run-exact u fall calls (tree.StmtTree.Declare ty ds) s turns = declarators-exact u calls (is_unsigned ty) ds s turns
   run-exact u fall calls (tree.StmtTree.Change c) s turns = change-exact u.file calls c s turns
   run-exact u fall calls (tree.StmtTree.Call f args) s turns =
-      given-exact (λ t. and_then (values u.file args s t) (call_value u.file.calls (variable u.file s f.id))) s (λ n. goes_on s n.turns) turns
+      with_value-exact (λ t. and_then (values u.file args s t) (call_value u.file.calls (variable u.file s f.id))) s (λ n. goes_on s n.turns) turns
       (and_then (values u.file args s turns) (call_value u.file.calls (variable u.file s f.id)))
       (exact-then (values u.file args s) (call_value u.file.calls (variable u.file s f.id)) turns (values u.file args s turns)
       (values-exact u.file calls args s turns) (λ n. call-exact u.file calls (variable u.file s f.id) n.value n.turns))

@@ -11,7 +11,7 @@ use Rattle.cddf_meaning.specs.Answers.{Answer, Left, and_then, with_turns}
 use Rattle.cddf_meaning.specs.Claims.{limit}
 use Rattle.cddf_meaning.specs.File.{File, type_in, variable}
 use Rattle.cddf_meaning.specs.Fitting.{FileFits, GivesInt, RanFits, StateFits, bound_fits, change_fits, declarators_fit, elements_fit, index_fits, items_fit, numbers_fit, start_fits, step_fits, stmt_fits, stmts_fit, target_fits, value_fits, variable_fits}
-use Rattle.cddf_meaning.specs.Flow.{Ran, Went, Ended, Runs, flows, given, goes_on, left_from, loops}
+use Rattle.cddf_meaning.specs.Flow.{Ran, Went, Ended, Runs, flows, with_value, goes_on, left_from, loops}
 use Rattle.cddf_meaning.specs.Functions.{bind_params, call_function, empty_file, file_of, in_function, item_variable, returned, with_item, with_items}
 use Rattle.cddf_meaning.specs.Operators.{binary_value, step_operator}
 use Rattle.cddf_meaning.specs.Run.{Around, after_store, aim_at, array_size, assigned, changed, loop, old_value, run, run_all, run_array, run_change, run_declarator, run_declarators, run_scalar, run_start, run_step, run_streams, run_test, run_unsized_or, run_window, target_type, window_size, with_streams}
@@ -141,14 +141,14 @@ old-int file g s f (Element id k) =
 went : (s : BodyState) (turns : ℕ) → StateFits s → RanFits (goes_on s turns)
 went s turns f = (f, tt)
 
-given-int : (a : Answer (Left ℤ)) (s : BodyState) (next : Left ℤ → Ran) → GivesInt a → ((n : Left ℤ) → is_int n.value ≡ true → RanFits (next n)) →
-    RanFits (given a s next)
-given-int (Ok n) s next h k = k n h
-given-int (Err ending) s next h k = tt
+with_value-int : (a : Answer (Left ℤ)) (s : BodyState) (next : Left ℤ → Ran) → GivesInt a → ((n : Left ℤ) → is_int n.value ≡ true → RanFits (next n)) →
+    RanFits (with_value a s next)
+with_value-int (Ok n) s next h k = k n h
+with_value-int (Err ending) s next h k = tt
 
-given-any : {A : Type 0} (a : Answer A) (s : BodyState) (next : A → Ran) → ((x : A) → RanFits (next x)) → RanFits (given a s next)
-given-any (Ok x) s next k = k x
-given-any (Err ending) s next k = tt
+with_value-any : {A : Type 0} (a : Answer A) (s : BodyState) (next : A → Ran) → ((x : A) → RanFits (next x)) → RanFits (with_value a s next)
+with_value-any (Ok x) s next k = k x
+with_value-any (Err ending) s next k = tt
 
 ran-if : (t : Bool) (a b : Ran) → RanFits a → RanFits b → RanFits (if t then a else b)
 ran-if true a b f g = f
@@ -181,7 +181,7 @@ loop-fits most test body step f g s zero h = tt
 loop-fits zero test body step f g s (suc turns) h = tt
 loop-fits (suc most) test body step f g s (suc turns) h =
     let again : Runs = λ s turns. flows (loop most test body step) (step s turns) in
-    given-any (test s turns) s (λ n. if is_zero n.value then goes_on s n.turns else loops again (body s n.turns))
+    with_value-any (test s turns) s (λ n. if is_zero n.value then goes_on s n.turns else loops again (body s n.turns))
     (λ n. ran-if (is_zero n.value) (goes_on s n.turns) (loops again (body s n.turns)) (went s n.turns h)
     (loops-fit again (body s n.turns) (f s n.turns h)
     (λ t left k. flows-fit (loop most test body step) (step t left) (g t left k) (loop-fits most test body step f g))))
@@ -203,9 +203,9 @@ assigned-int (assign_of.With op) line t r old new h k = binary-int op line t r o
 changed-fits : (file : File) → FileFits file → (t : tree.TargetTree) (right : ℤ → BodyState → ℕ → Answer (Left ℤ)) →
     ((old : ℤ) (s : BodyState) (turns : ℕ) → StateFits s → is_int old ≡ true → GivesInt (right old s turns)) → RunsFit (changed file t right)
 changed-fits file g t right k s turns f =
-    given-any (aim_at file t s turns) s
-    (λ a. given (right (old_value file s a.value) s a.turns) s (λ v. goes_on (after_store s a.value v.value) v.turns))
-    (λ a. given-int (right (old_value file s a.value) s a.turns) s (λ v. goes_on (after_store s a.value v.value) v.turns)
+    with_value-any (aim_at file t s turns) s
+    (λ a. with_value (right (old_value file s a.value) s a.turns) s (λ v. goes_on (after_store s a.value v.value) v.turns))
+    (λ a. with_value-int (right (old_value file s a.value) s a.turns) s (λ v. goes_on (after_store s a.value v.value) v.turns)
     (k (old_value file s a.value) s a.turns f (old-int file g s f a.value))
     (λ v h. went (after_store s a.value v.value) v.turns (after-fits s a.value v.value f h)))
 
@@ -236,7 +236,7 @@ scalar-fits file g w id None h s turns f = went (declared id w (Scalar (pos 0)) 
 scalar-fits file g w id (Some e) h s turns f =
     let inner = declared id w (Scalar (pos 0)) s in
     let fits = declared-fits id w (Scalar (pos 0)) s f refl in
-    given-int (value file e inner turns) inner (λ n. goes_on (stored inner id n.value) n.turns) (value-int file g e h inner turns fits)
+    with_value-int (value file e inner turns) inner (λ n. goes_on (stored inner id n.value) n.turns) (value-int file g e h inner turns fits)
     (λ n i. went (stored inner id n.value) n.turns (stored-fits (find inner.bound id) inner id n.value fits i))
 
 streams-in : (id : ℕ) (w : Bool) (count : ℕ) (s : BodyState) → StateFits s → StateFits (with_streams id w count s)
@@ -245,19 +245,19 @@ streams-in id w count s f = record { variables = f.variables; items = f.items }
 streams-fit : (file : File) (w : Bool) (id : ℕ) (size : Option tree.IndexTree) → RunsFit (run_streams file w id size)
 streams-fit file w id None s turns f = went (with_streams id w 1 s) turns (streams-in id w 1 s f)
 streams-fit file w id (Some i) s turns f =
-    given-any (value file i.value s turns) s (λ n. goes_on (with_streams id w (array_size n.value) s) n.turns)
+    with_value-any (value file i.value s turns) s (λ n. goes_on (with_streams id w (array_size n.value) s) n.turns)
     (λ n. went (with_streams id w (array_size n.value) s) n.turns (streams-in id w (array_size n.value) s f))
 
 window-fits : (file : File) (w : Bool) (id : ℕ) (i : tree.IndexTree) → RunsFit (run_window file w id i)
 window-fits file w id i s turns f =
-    given-any (value file i.value s turns) s
-    (λ n. given (window_size i.mark.line n.value) s (λ horizon. goes_on (declared id w (Window horizon) s) n.turns))
-    (λ n. given-any (window_size i.mark.line n.value) s (λ horizon. goes_on (declared id w (Window horizon) s) n.turns)
+    with_value-any (value file i.value s turns) s
+    (λ n. with_value (window_size i.mark.line n.value) s (λ horizon. goes_on (declared id w (Window horizon) s) n.turns))
+    (λ n. with_value-any (window_size i.mark.line n.value) s (λ horizon. goes_on (declared id w (Window horizon) s) n.turns)
     (λ horizon. went (declared id w (Window horizon) s) n.turns (declared-fits id w (Window horizon) s f refl)))
 
 array-fits : (file : File) (w : Bool) (id : ℕ) (size : tree.ExprTree) → RunsFit (run_array file w id size)
 array-fits file w id size s turns f =
-    given-any (value file size s turns) s (λ n. goes_on (declared id w (Array (replicate (array_size n.value) (pos 0))) s) n.turns)
+    with_value-any (value file size s turns) s (λ n. goes_on (declared id w (Array (replicate (array_size n.value) (pos 0))) s) n.turns)
     (λ n. went (declared id w (Array (replicate (array_size n.value) (pos 0))) s) n.turns
     (declared-fits id w (Array (replicate (array_size n.value) (pos 0))) s f (zeros-fit (array_size n.value) (size-few n.value))))
 
@@ -301,7 +301,7 @@ limited-fits (Some n) s next turns f = tt
 task-run : (file : File) (sites : List Site) (number : Option ℕ) (ps : List ClausePart) → RunsFit (run_task file sites number ps)
 task-run file sites None ps s turns f = went s turns f
 task-run file sites (Some number) ps s turns f =
-    given-any (items_claims file ps s turns) s
+    with_value-any (items_claims file ps s turns) s
     (λ c. unless_limited (limit s.activations c.value) s c.turns (with_activation file number (captured_by sites number) c.value s))
     (λ c. limited-fits (limit s.activations c.value) s (with_activation file number (captured_by sites number) c.value s) c.turns
     (record { variables = f.variables; items = f.items }))
@@ -312,10 +312,10 @@ turn-run stream amount s (suc turns) f = (record { variables = f.variables; item
 
 tick-run : (file : File) (t : tree.TargetTree) (arrow : Mark) (e : tree.ExprTree) → RunsFit (run_tick file t arrow e)
 tick-run file t arrow e s turns f =
-    given-any (stream_number file t s turns) s
-    (λ n. given (value file e s n.turns) s (λ v. given (cursor_move arrow.line v.value) s (λ amount. tick_turn n.value amount s v.turns)))
-    (λ n. given-any (value file e s n.turns) s (λ v. given (cursor_move arrow.line v.value) s (λ amount. tick_turn n.value amount s v.turns))
-    (λ v. given-any (cursor_move arrow.line v.value) s (λ amount. tick_turn n.value amount s v.turns) (λ amount. turn-run n.value amount s v.turns f)))
+    with_value-any (stream_number file t s turns) s
+    (λ n. with_value (value file e s n.turns) s (λ v. with_value (cursor_move arrow.line v.value) s (λ amount. tick_turn n.value amount s v.turns)))
+    (λ n. with_value-any (value file e s n.turns) s (λ v. with_value (cursor_move arrow.line v.value) s (λ amount. tick_turn n.value amount s v.turns))
+    (λ v. with_value-any (cursor_move arrow.line v.value) s (λ amount. tick_turn n.value amount s v.turns) (λ amount. turn-run n.value amount s v.turns f)))
 
 mutual
   pub run-fits : (u : Around) → FileFits u.file → (a : tree.StmtTree) → stmt_fits a ≡ true → RunsFit (run u a)
@@ -324,15 +324,15 @@ mutual
   run-fits u g (tree.StmtTree.Declare ty ds) h s turns f = declarators-run u g (is_unsigned ty) ds h s turns f
   run-fits u g (tree.StmtTree.Change c) h s turns f = change-fits u.file g c h s turns f
   run-fits u g (tree.StmtTree.Call n args) h s turns f =
-      given-any (and_then (values u.file args s turns) (call_value u.file.calls (variable u.file s n.id))) s (λ n. goes_on s n.turns) (λ n. went s n.turns f)
+      with_value-any (and_then (values u.file args s turns) (call_value u.file.calls (variable u.file s n.id))) s (λ n. goes_on s n.turns) (λ n. went s n.turns f)
   run-fits u g (tree.If c a) h s turns f =
       let fits = both (numbers_fit c) (stmt_fits a) h in
-      given-any (value u.file c s turns) s (λ n. if is_zero n.value then goes_on s n.turns else run u a s n.turns)
+      with_value-any (value u.file c s turns) s (λ n. if is_zero n.value then goes_on s n.turns else run u a s n.turns)
       (λ n. ran-if (is_zero n.value) (goes_on s n.turns) (run u a s n.turns) (went s n.turns f) (run-fits u g a fits.1 s n.turns f))
   run-fits u g (tree.IfElse c a b) h s turns f =
       let fits = both (numbers_fit c) (stmt_fits a && stmt_fits b) h in
       let branches = both (stmt_fits a) (stmt_fits b) fits.1 in
-      given-any (value u.file c s turns) s (λ n. if is_zero n.value then run u b s n.turns else run u a s n.turns)
+      with_value-any (value u.file c s turns) s (λ n. if is_zero n.value then run u b s n.turns else run u a s n.turns)
       (λ n. ran-if (is_zero n.value) (run u b s n.turns) (run u a s n.turns) (run-fits u g b branches.1 s n.turns f) (run-fits u g a branches.0 s n.turns f))
   run-fits u g (tree.While c a) h s turns f =
       let fits = both (numbers_fit c) (stmt_fits a) h in
@@ -348,7 +348,7 @@ mutual
   run-fits u g (tree.Break m) h s turns f = (f, tt)
   run-fits u g (tree.Continue m) h s turns f = (f, tt)
   run-fits u g (tree.Return m e) h s turns f =
-      given-int (value u.file e s turns) s (λ n. Went (Returns n.value) s n.turns) (value-int u.file g e h s turns f) (λ n i. (f, i))
+      with_value-int (value u.file e s turns) s (λ n. Went (Returns n.value) s n.turns) (value-int u.file g e h s turns f) (λ n i. (f, i))
   run-fits u g (tree.Task m cs a) h s turns f = task-run u.file u.sites (task_number u.sites m) (parts cs) s turns f
   run-fits u g (tree.Tick m t arrow e) h s turns f = tick-run u.file t arrow e s turns f
   run-fits u g (tree.Taskwait m) h s turns f = went s turns f

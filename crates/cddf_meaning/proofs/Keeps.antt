@@ -6,7 +6,7 @@ use Rattle.c_int.specs.declared.control_limit.ControlLimit.{ControlLimit}
 use Rattle.cddf_meaning.specs.Answers.{Answer, Left, and_then, left, with_turns}
 use Rattle.cddf_meaning.specs.Claims.{limit}
 use Rattle.cddf_meaning.specs.File.{File, variable, type_in}
-use Rattle.cddf_meaning.specs.Flow.{Ran, Went, Ended, Runs, given, goes_on, flows, loops, left_from}
+use Rattle.cddf_meaning.specs.Flow.{Ran, Went, Ended, Runs, with_value, goes_on, flows, loops, left_from}
 use Rattle.cddf_meaning.specs.Moves.{Falls, CallsFall, Keeps, item_lengths}
 use Rattle.cddf_meaning.specs.Operators.{binary_value, step_operator}
 use Rattle.cddf_meaning.specs.Run.{Around, loop, assigned, aim_at, old_value, after_store, changed, run_change, run_scalar, run_array, run_window, window_size, with_streams, run_streams, run_unsized_or, run_declarator, run_declarators, run_start, run_test, run_step, run, run_all, array_size, target_type}
@@ -40,15 +40,15 @@ keeps-from s t turns less (Went flow u left) h e (a, b) = (omega (arith, h, a), 
 pub keeps-on : (s t : BodyState) (turns : ℕ) → item_lengths t ≡ item_lengths s → Keeps s turns (goes_on t turns)
 keeps-on s t turns e = (omega arith, e)
 
-given-left : {A : Type 0} (s : BodyState) (turns : ℕ) (a : Answer (Left A)) (next : Left A → Ran) → Falls turns a →
-    ((n : Left A) → Keeps s n.turns (next n)) → Keeps s turns (given a s next)
-given-left s turns (Err ending) next f k = tt
-given-left s turns (Ok n) next f k = keeps-less s turns n.turns (next n) f (k n)
+with_value-left : {A : Type 0} (s : BodyState) (turns : ℕ) (a : Answer (Left A)) (next : Left A → Ran) → Falls turns a →
+    ((n : Left A) → Keeps s n.turns (next n)) → Keeps s turns (with_value a s next)
+with_value-left s turns (Err ending) next f k = tt
+with_value-left s turns (Ok n) next f k = keeps-less s turns n.turns (next n) f (k n)
 
-given-plain : {A : Type 0} (s : BodyState) (turns : ℕ) (a : Answer A) (next : A → Ran) → ((v : A) → Keeps s turns (next v)) →
-    Keeps s turns (given a s next)
-given-plain s turns (Err ending) next k = tt
-given-plain s turns (Ok v) next k = k v
+with_value-plain : {A : Type 0} (s : BodyState) (turns : ℕ) (a : Answer A) (next : A → Ran) → ((v : A) → Keeps s turns (next v)) →
+    Keeps s turns (with_value a s next)
+with_value-plain s turns (Err ending) next k = tt
+with_value-plain s turns (Ok v) next k = k v
 
 flows-keeps : (s : BodyState) (turns : ℕ) (next : Runs) (r : Ran) → Keeps s turns r → ((t : BodyState) (left : ℕ) → Keeps t left (next t left)) →
     Keeps s turns (flows next r)
@@ -122,10 +122,10 @@ aim-falls file calls (tree.Element n m e) s turns =
 changed-keeps : (file : File) → CallsFall file → (t : tree.TargetTree) (right : ℤ → BodyState → ℕ → Answer (Left ℤ)) →
     ((old : ℤ) (s : BodyState) (turns : ℕ) → Falls turns (right old s turns)) → (s : BodyState) (turns : ℕ) → Keeps s turns (changed file t right s turns)
 changed-keeps file calls t right f s turns =
-    given-left s turns (aim_at file t s turns)
-    (λ a. given (right (old_value file s a.value) s a.turns) s (λ v. goes_on (after_store s a.value v.value) v.turns))
+    with_value-left s turns (aim_at file t s turns)
+    (λ a. with_value (right (old_value file s a.value) s a.turns) s (λ v. goes_on (after_store s a.value v.value) v.turns))
     (aim-falls file calls t s turns)
-    (λ a. given-left s a.turns (right (old_value file s a.value) s a.turns) (λ v. goes_on (after_store s a.value v.value) v.turns)
+    (λ a. with_value-left s a.turns (right (old_value file s a.value) s a.turns) (λ v. goes_on (after_store s a.value v.value) v.turns)
     (f (old_value file s a.value) s a.turns)
     (λ v. keeps-on s (after_store s a.value v.value) v.turns (after_store-keeps s a.value v.value)))
 
@@ -148,13 +148,13 @@ scalar-keeps : (file : File) → CallsFall file → (w : Bool) (id : ℕ) (first
 scalar-keeps file calls w id None s turns = keeps-on s (declared id w (Scalar (pos 0)) s) turns refl
 scalar-keeps file calls w id (Some e) s turns =
     let inner = declared id w (Scalar (pos 0)) s in
-    given-left inner turns (value file e inner turns) (λ n. goes_on (stored inner id n.value) n.turns) (value-falls file calls e inner turns)
+    with_value-left inner turns (value file e inner turns) (λ n. goes_on (stored inner id n.value) n.turns) (value-falls file calls e inner turns)
     (λ n. keeps-on inner (stored inner id n.value) n.turns (stored_in-keeps (find inner.bound id) inner id n.value))
 
 -- one value, and then a state with the same items
 valued-keeps : (file : File) → CallsFall file → (e : tree.ExprTree) (s : BodyState) (turns : ℕ) (next : Left ℤ → Ran) →
-    ((n : Left ℤ) → Keeps s n.turns (next n)) → Keeps s turns (given (value file e s turns) s next)
-valued-keeps file calls e s turns next k = given-left s turns (value file e s turns) next (value-falls file calls e s turns) k
+    ((n : Left ℤ) → Keeps s n.turns (next n)) → Keeps s turns (with_value (value file e s turns) s next)
+valued-keeps file calls e s turns next k = with_value-left s turns (value file e s turns) next (value-falls file calls e s turns) k
 
 either-keeps : (t : Bool) (a b : Runs) → ((s : BodyState) (turns : ℕ) → Keeps s turns (a s turns)) →
     ((s : BodyState) (turns : ℕ) → Keeps s turns (b s turns)) → (s : BodyState) (turns : ℕ) → Keeps s turns ((if t then a else b) s turns)
@@ -171,8 +171,8 @@ streams-keeps file calls w id (Some i) s turns =
 window-keeps : (file : File) → CallsFall file → (w : Bool) (id : ℕ) (i : tree.IndexTree) (s : BodyState) (turns : ℕ) → Keeps s turns (run_window file w id i s turns)
 window-keeps file calls w id i s turns =
     valued-keeps file calls i.value s turns
-    (λ n. given (window_size i.mark.line n.value) s (λ horizon. goes_on (declared id w (Window horizon) s) n.turns))
-    (λ n. given-plain s n.turns (window_size i.mark.line n.value) (λ horizon. goes_on (declared id w (Window horizon) s) n.turns)
+    (λ n. with_value (window_size i.mark.line n.value) s (λ horizon. goes_on (declared id w (Window horizon) s) n.turns))
+    (λ n. with_value-plain s n.turns (window_size i.mark.line n.value) (λ horizon. goes_on (declared id w (Window horizon) s) n.turns)
     (λ horizon. keeps-on s (declared id w (Window horizon) s) n.turns refl))
 
 array-keeps : (file : File) → CallsFall file → (w : Bool) (id : ℕ) (size : tree.ExprTree) (s : BodyState) (turns : ℕ) → Keeps s turns (run_array file w id size s turns)
@@ -218,9 +218,9 @@ loop-keeps most test body step ft kb ks s zero = tt
 loop-keeps zero test body step ft kb ks s (suc turns) = tt
 loop-keeps (suc most) test body step ft kb ks s (suc turns) =
     let again : Runs = λ s turns. flows (loop most test body step) (step s turns) in
-    keeps-less s (suc turns) turns (given (test s turns) s (λ n. if is_zero n.value then goes_on s n.turns else loops again (body s n.turns)))
+    keeps-less s (suc turns) turns (with_value (test s turns) s (λ n. if is_zero n.value then goes_on s n.turns else loops again (body s n.turns)))
     (omega arith)
-    (given-left s turns (test s turns) (λ n. if is_zero n.value then goes_on s n.turns else loops again (body s n.turns)) (ft s turns)
+    (with_value-left s turns (test s turns) (λ n. if is_zero n.value then goes_on s n.turns else loops again (body s n.turns)) (ft s turns)
     (λ n. keeps-if (is_zero n.value) s n.turns (goes_on s n.turns) (loops again (body s n.turns)) (keeps-on s s n.turns refl)
     (loops-keeps s n.turns again (body s n.turns) (kb s n.turns)
     (λ t left. flows-keeps t left (loop most test body step) (step t left) (ks t left) (loop-keeps most test body step ft kb ks)))))
@@ -275,7 +275,7 @@ task-keeps : (file : File) → CallsFall file → (sites : List Site) (number : 
     Keeps s turns (run_task file sites number ps s turns)
 task-keeps file calls sites None ps s turns = keeps-on s s turns refl
 task-keeps file calls sites (Some number) ps s turns =
-    given-left s turns (items_claims file ps s turns)
+    with_value-left s turns (items_claims file ps s turns)
     (λ c. unless_limited (limit s.activations c.value) s c.turns (with_activation file number (captured_by sites number) c.value s))
     (items-falls file calls ps s turns)
     (λ c. limited-keeps (limit s.activations c.value) s (with_activation file number (captured_by sites number) c.value s) c.turns refl)
@@ -287,12 +287,12 @@ turn-keeps stream amount s (suc turns) = (omega arith, refl)
 tick-keeps : (file : File) → CallsFall file → (t : tree.TargetTree) (arrow : Mark) (e : tree.ExprTree) (s : BodyState) (turns : ℕ) →
     Keeps s turns (run_tick file t arrow e s turns)
 tick-keeps file calls t arrow e s turns =
-    given-left s turns (stream_number file t s turns)
-    (λ n. given (value file e s n.turns) s
-    (λ v. given (cursor_move arrow.line v.value) s (λ amount. tick_turn n.value amount s v.turns)))
+    with_value-left s turns (stream_number file t s turns)
+    (λ n. with_value (value file e s n.turns) s
+    (λ v. with_value (cursor_move arrow.line v.value) s (λ amount. tick_turn n.value amount s v.turns)))
     (number-falls file calls t s turns)
-    (λ n. valued-keeps file calls e s n.turns (λ v. given (cursor_move arrow.line v.value) s (λ amount. tick_turn n.value amount s v.turns))
-    (λ v. given-plain s v.turns (cursor_move arrow.line v.value) (λ amount. tick_turn n.value amount s v.turns)
+    (λ n. valued-keeps file calls e s n.turns (λ v. with_value (cursor_move arrow.line v.value) s (λ amount. tick_turn n.value amount s v.turns))
+    (λ v. with_value-plain s v.turns (cursor_move arrow.line v.value) (λ amount. tick_turn n.value amount s v.turns)
     (λ amount. turn-keeps n.value amount s v.turns)))
 
 mutual
@@ -302,7 +302,7 @@ mutual
   run-keeps u calls (tree.StmtTree.Declare ty ds) s turns = declarators-keeps u calls (is_unsigned ty) ds s turns
   run-keeps u calls (tree.StmtTree.Change c) s turns = change-keeps u.file calls c s turns
   run-keeps u calls (tree.StmtTree.Call f args) s turns =
-      given-left s turns (and_then (values u.file args s turns) (call_value u.file.calls (variable u.file s f.id))) (λ n. goes_on s n.turns)
+      with_value-left s turns (and_then (values u.file args s turns) (call_value u.file.calls (variable u.file s f.id))) (λ n. goes_on s n.turns)
       (falls-then turns (values u.file args s turns) (call_value u.file.calls (variable u.file s f.id))
       (values-falls u.file calls args s turns) (call-falls u.file calls (variable u.file s f.id)))
       (λ n. keeps-on s s n.turns refl)

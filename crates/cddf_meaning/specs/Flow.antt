@@ -19,9 +19,9 @@ abbrev pub Runs : Type 0
 Runs = BodyState → ℕ → Ran
 
 -- where something is given, what follows; and else the end of the body
-abbrev pub given : {A : Type 0} → Answer A → BodyState → (A → Ran) → Ran
-given (Ok a) s next = next a
-given (Err ending) s next = Ended ending s.activations
+abbrev pub with_value : {A : Type 0} → Answer A → BodyState → (A → Ran) → Ran
+with_value (Ok a) s next = next a
+with_value (Err ending) s next = Ended ending s.activations
 
 abbrev pub goes_on : BodyState → ℕ → Ran
 goes_on s turns = Went GoesOn s turns

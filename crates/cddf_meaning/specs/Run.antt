@@ -7,7 +7,7 @@ use Rattle.c_int.specs.Operators.{is_zero}
 use Rattle.c_int.specs.declared.trap.Trap.TheVariants.{WindowSize}
 use Rattle.cddf_meaning.specs.Answers.{Answer, passing, and_then, Left, left, with_turns}
 use Rattle.cddf_meaning.specs.File.{File, variable, flags, type_in}
-use Rattle.cddf_meaning.specs.Flow.{Went, Ended, Runs, given, goes_on, flows, loops, left_from}
+use Rattle.cddf_meaning.specs.Flow.{Went, Ended, Runs, with_value, goes_on, flows, loops, left_from}
 use Rattle.cddf_meaning.specs.Operators.{binary_value, step_operator}
 use Rattle.cddf_meaning.specs.BodyState.{BodyState, declared, stored, stored_at}
 use Rattle.cddf_meaning.specs.Streams.{run_task, run_tick, task_number}
@@ -38,7 +38,7 @@ pub record Around : Type 0 where
 abbrev pub loop : ℕ → (BodyState → ℕ → Answer (Left ℤ)) → Runs → Runs → Runs
 loop most test body step s zero = Ended OverBudget s.activations
 loop zero test body step s (suc turns) = Ended OverBudget s.activations
-loop (suc most) test body step s (suc turns) = given (test s turns) s
+loop (suc most) test body step s (suc turns) = with_value (test s turns) s
     (λ n. if is_zero n.value then goes_on s n.turns else loops (λ s turns. flows (loop most test body step) (step s turns)) (body s n.turns))
 
 -- What is stored: the right side, or what the operator gives of the old value and the right side, by the types of the target and of
@@ -64,8 +64,8 @@ after_store s (Element id k) v = stored_at s id k v
 -- A change: the target; then what is stored, which may be made of the old value; then it is stored. Expressions change
 -- no name, so that it makes no difference when the old value is read.
 abbrev pub changed : File → tree.TargetTree → (ℤ → BodyState → ℕ → Answer (Left ℤ)) → Runs
-changed file t right s turns = given (aim_at file t s turns) s
-    (λ a. given (right (old_value file s a.value) s a.turns) s (λ v. goes_on (after_store s a.value v.value) v.turns))
+changed file t right s turns = with_value (aim_at file t s turns) s
+    (λ a. with_value (right (old_value file s a.value) s a.turns) s (λ v. goes_on (after_store s a.value v.value) v.turns))
 
 -- the type of a target
 abbrev pub target_type : File → BodyState → tree.TargetTree → Bool
@@ -86,7 +86,7 @@ run_change file (tree.Before t p m) =
 abbrev pub run_scalar : File → Bool → ℕ → Option tree.ExprTree → Runs
 run_scalar file unsigned id None s turns = goes_on (declared id unsigned (Scalar (pos 0)) s) turns
 run_scalar file unsigned id (Some e) s turns = let inner = declared id unsigned (Scalar (pos 0)) s in
-    given (value file e inner turns) inner (λ n. goes_on (stored inner id n.value) n.turns)
+    with_value (value file e inner turns) inner (λ n. goes_on (stored inner id n.value) n.turns)
 
 -- The size of a local array or of a stream array is a number or a constant from 1 to 65,536.
 abbrev pub array_size : ℤ → ℕ
@@ -95,15 +95,15 @@ array_size v = unwrap_or (within_limit v) 0
 -- A local array has as many zeros as its size.
 abbrev pub run_array : File → Bool → ℕ → tree.ExprTree → Runs
 run_array file unsigned id size s turns =
-    given (value file size s turns) s (λ n. goes_on (declared id unsigned (Array (replicate (array_size n.value) (pos 0))) s) n.turns)
+    with_value (value file size s turns) s (λ n. goes_on (declared id unsigned (Array (replicate (array_size n.value) (pos 0))) s) n.turns)
 
 -- The size of a window is 1 to 65,536; else it is trap 6, with the line of its `[`.
 abbrev pub window_size : ℕ → ℤ → Answer ℕ
 window_size line v = passing (λ n. leb 1 n && leb n horizon_limit) WindowSize line v
 
 abbrev pub run_window : File → Bool → ℕ → tree.IndexTree → Runs
-run_window file unsigned id i s turns = given (value file i.value s turns) s
-    (λ n. given (window_size i.mark.line n.value) s (λ horizon. goes_on (declared id unsigned (Window horizon) s) n.turns))
+run_window file unsigned id i s turns = with_value (value file i.value s turns) s
+    (λ n. with_value (window_size i.mark.line n.value) s (λ horizon. goes_on (declared id unsigned (Window horizon) s) n.turns))
 
 -- Streams are numbered in the order of the text, behind `osin` and `osout`.
 abbrev pub with_streams : ℕ → Bool → ℕ → BodyState → BodyState
@@ -112,7 +112,7 @@ with_streams id unsigned count s = record (declared id unsigned (Stream s.stream
 abbrev pub run_streams : File → Bool → ℕ → Option tree.IndexTree → Runs
 run_streams file unsigned id None s turns = goes_on (with_streams id unsigned 1 s) turns
 run_streams file unsigned id (Some i) s turns =
-    given (value file i.value s turns) s (λ n. goes_on (with_streams id unsigned (array_size n.value) s) n.turns)
+    with_value (value file i.value s turns) s (λ n. goes_on (with_streams id unsigned (array_size n.value) s) n.turns)
 
 -- an array of the control program is a window, every other is a local array
 abbrev pub run_sized : Around → Bool → ℕ → tree.IndexTree → Runs
@@ -154,15 +154,15 @@ abbrev mutual
   run u (tree.StmtTree.Declare ty ds) s turns = run_declarators u (is_unsigned ty) ds s turns
   run u (tree.StmtTree.Change c) s turns = run_change u.file c s turns
   run u (tree.StmtTree.Call f args) s turns =
-      given (and_then (values u.file args s turns) (call_value u.file.calls (variable u.file s f.id))) s (λ n. goes_on s n.turns)
-  run u (tree.If c a) s turns = given (value u.file c s turns) s (λ n. if is_zero n.value then goes_on s n.turns else run u a s n.turns)
-  run u (tree.IfElse c a b) s turns = given (value u.file c s turns) s (λ n. if is_zero n.value then run u b s n.turns else run u a s n.turns)
+      with_value (and_then (values u.file args s turns) (call_value u.file.calls (variable u.file s f.id))) s (λ n. goes_on s n.turns)
+  run u (tree.If c a) s turns = with_value (value u.file c s turns) s (λ n. if is_zero n.value then goes_on s n.turns else run u a s n.turns)
+  run u (tree.IfElse c a b) s turns = with_value (value u.file c s turns) s (λ n. if is_zero n.value then run u b s n.turns else run u a s n.turns)
   run u (tree.While c a) s turns = loop turns (value u.file c) (run u a) goes_on s turns
   run u (tree.For start test step a) s turns = left_from s
       (flows (λ inner left. loop left (run_test u.file test) (run u a) (run_step u.file step) inner left) (run_start u start s turns))
   run u (tree.Break m) s turns = Went Breaks s turns
   run u (tree.Continue m) s turns = Went Continues s turns
-  run u (tree.Return m e) s turns = given (value u.file e s turns) s (λ n. Went (Returns n.value) s n.turns)
+  run u (tree.Return m e) s turns = with_value (value u.file e s turns) s (λ n. Went (Returns n.value) s n.turns)
   run u (tree.Task m cs a) s turns = run_task u.file u.sites (task_number u.sites m) (parts cs) s turns
   run u (tree.Tick m t arrow e) s turns = run_tick u.file t arrow e s turns
   -- `;` and a taskwait do nothing: the control program reads no element, so there is nothing to wait for.

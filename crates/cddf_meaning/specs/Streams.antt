@@ -7,7 +7,7 @@ use Rattle.c_int.specs.declared.trap.Trap.TheVariants.{Move, OutputBurst}
 use Rattle.cddf_meaning.specs.Answers.{Answer, Left, passing, and_then, left, with_turns}
 use Rattle.cddf_meaning.specs.Claims.{with_skips, moves_behind, limit}
 use Rattle.cddf_meaning.specs.File.{File, variable}
-use Rattle.cddf_meaning.specs.Flow.{Ran, Ended, given, goes_on}
+use Rattle.cddf_meaning.specs.Flow.{Ran, Ended, with_value, goes_on}
 use Rattle.cddf_meaning.specs.BodyState.{BodyState}
 use Rattle.cddf_meaning.specs.declared.site.Site.{Site}
 use Rattle.cddf_meaning.specs.Variables.{find}
@@ -115,7 +115,7 @@ captured_by sites number = get_or (map (λ t. t.captured) sites) number []
 -- the program's tasks.
 abbrev pub run_task : File → List Site → Option ℕ → List ClausePart → BodyState → ℕ → Ran
 run_task file sites None ps s turns = goes_on s turns
-run_task file sites (Some number) ps s turns = given (items_claims file ps s turns) s
+run_task file sites (Some number) ps s turns = with_value (items_claims file ps s turns) s
     (λ c. unless_limited (limit s.activations c.value) s c.turns (with_activation file number (captured_by sites number) c.value s))
 
 -- a tick moves the read cursor of a stream
@@ -129,5 +129,5 @@ tick_turn stream amount s (suc turns) = goes_on (moved stream amount s) turns
 
 -- A tick: first the stream's index, then the amount, which is checked with the line of the `>>`, then a unit.
 abbrev pub run_tick : File → tree.TargetTree → Mark → tree.ExprTree → BodyState → ℕ → Ran
-run_tick file stream arrow e s turns = given (stream_number file stream s turns) s
-    (λ n. given (value file e s n.turns) s (λ v. given (cursor_move arrow.line v.value) s (λ amount. tick_turn n.value amount s v.turns)))
+run_tick file stream arrow e s turns = with_value (stream_number file stream s turns) s
+    (λ n. with_value (value file e s n.turns) s (λ v. with_value (cursor_move arrow.line v.value) s (λ amount. tick_turn n.value amount s v.turns)))

@@ -2,7 +2,7 @@
 use Rattle.std.proofs.Common.{◌≡◌, ℕ, zero, suc, ◌+◌, ◌≤◌, Bool, true, false, not, if◌then◌else◌, Ok, ℤ, refl, ap, ◌∙◌, sym, arith}
 use Rattle.c_int.specs.Operators.{is_zero}
 use Rattle.cddf_meaning.specs.Answers.{Answer, Left, left}
-use Rattle.cddf_meaning.specs.Flow.{Ran, Went, Runs, given, goes_on, flows, loops}
+use Rattle.cddf_meaning.specs.Flow.{Ran, Went, Runs, with_value, goes_on, flows, loops}
 use Rattle.cddf_meaning.specs.Run.{loop}
 use Rattle.cddf_meaning.specs.BodyState.{BodyState}
 use Rattle.cddf_meaning.specs.declared.flow.Flow.{Flow}
@@ -16,7 +16,7 @@ one-turn : (m : ℕ) (test : BodyState → ℕ → Answer (Left ℤ)) (body step
     loop (suc m) test body step s (suc t) ≡ loop m test body step s3 t3
 one-turn m test body step s s2 s3 t t1 t2 t3 n flow et ez eb again es =
     let next : Runs = λ s turns. flows (loop m test body step) (step s turns) in
-    ap (λ a. given a s (λ n. if is_zero n.value then goes_on s n.turns else loops next (body s n.turns))) et
+    ap (λ a. with_value a s (λ n. if is_zero n.value then goes_on s n.turns else loops next (body s n.turns))) et
     ∙ ap (λ (z : Bool). if z then goes_on s t1 else loops next (body s t1)) ez
     ∙ ap (loops next) eb ∙ again next s2 t2 ∙ ap (flows (loop m test body step)) es
 
@@ -46,7 +46,7 @@ loop-left (suc m) turns t t1 t2 test body step s s2 n flow gone all h z inv et e
     let same : turns ≡ suc t = omega (arith, z) in
     let next : Runs = λ s turns. flows (loop m test body step) (step s turns) in
     sym inv ∙ ap (loop (suc m) test body step s) same
-    ∙ ap (λ a. given a s (λ n. if is_zero n.value then goes_on s n.turns else loops next (body s n.turns))) et
+    ∙ ap (λ a. with_value a s (λ n. if is_zero n.value then goes_on s n.turns else loops next (body s n.turns))) et
     ∙ ap (λ (z : Bool). if z then goes_on s t1 else loops next (body s t1)) ez
     ∙ ap (loops next) eb ∙ leaves next s2 t2
 

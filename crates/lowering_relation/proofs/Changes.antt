@@ -2,7 +2,7 @@
 use Rattle.std.proofs.Common.{◌≡◌, ℕ, ◌+◌, ◌≤◌, Bool, true, false, List, [], ◌∷◌, ◌++◌, length, Some, Ok, Err, ℤ, pos, refl, sym, ap, ◌∙◌, subst}
 use Rattle.cddf_meaning.specs.Answers.{Answer, and_then, Left, left, with_turns}
 use Rattle.cddf_meaning.specs.File.{variable, type_in}
-use Rattle.cddf_meaning.specs.Flow.{Ran, given, goes_on}
+use Rattle.cddf_meaning.specs.Flow.{Ran, with_value, goes_on}
 use Rattle.cddf_meaning.specs.Operators.{binary_value, step_operator}
 use Rattle.cddf_meaning.specs.Run.{assigned, old_value, after_store, changed, target_type, run_change}
 use Rattle.cddf_meaning.specs.BodyState.{BodyState, stored, stored_at}
@@ -45,7 +45,7 @@ abbrev pub with_old : Bool → ℤ → List ℤ → List ℤ
 with_old true v stack = v ∷ stack
 with_old false v stack = stack
 
-given_then : {A B : Type 0} (a : Answer A) (f : A → Answer B) (st : BodyState) (g : B → Ran) → given a st (λ x. given (f x) st g) ≡ given (and_then a f) st g
+given_then : {A B : Type 0} (a : Answer A) (f : A → Answer B) (st : BodyState) (g : B → Ran) → with_value a st (λ x. with_value (f x) st g) ≡ with_value (and_then a f) st g
 given_then (Ok x) f st g = refl
 given_then (Err e) f st g = refl
 
@@ -108,19 +108,19 @@ module _ (c : Context) (callers : List Frame) (leaves : Instr) (total : ℕ) (s 
       let named = name c s es st m.slots n u tt ready.scope k ready.aligned in
       let line = open_mark.line in
       let size = length (elements st (find st.bound n.id)) in
-      let g : Left Aim → Ran = λ a. given (right (old_value c.file st a.value) st a.turns) st (λ v. goes_on (after_store st a.value v.value) v.turns) in
+      let g : Left Aim → Ran = λ a. with_value (right (old_value c.file st a.value) st a.turns) st (λ v. goes_on (after_store st a.value v.value) v.turns) in
       let f : Left ℤ → Answer (Left Aim) = λ i. and_then (checked size line i.value) (λ j. Ok (left (Element n.id j) i.turns)) in
       subst (Does c.code (at callers from stack m turns) (settled c callers leaves total to broke continued stack within es)) (given_then (value c.file e st turns) f st g)
-      (given_does st m (λ i. given (f i) st g) refl ready.kept (expr_runs c callers s es st m ready e from h.0 stack turns agree.1 h.3)
+      (given_does st m (λ i. with_value (f i) st g) refl ready.kept (expr_runs c callers s es st m ready e from h.0 stack turns agree.1 h.3)
       (λ i y e1.
       subst (Does c.code (at callers h.0 (i.value ∷ stack) m i.turns) (settled c callers leaves total to broke continued stack within es)) (given_then (checked size line i.value) (λ j. Ok (left (Element n.id j) i.turns)) st g)
-      (given_does st m (λ j. given (Ok (left (Element n.id j) i.turns)) st g) refl ready.kept
+      (given_does st m (λ j. with_value (Ok (left (Element n.id j) i.turns)) st g) refl ready.kept
       (fetch old n u tt k line h.0 h.1 i.value stack i.turns (subst (λ x. Stands c.code (fetching_at old x line) h.0 h.1) k.told h.4))
       (λ j z e2.
       given_does st m (λ v. goes_on (stored_at st n.id j v.value) v.turns) refl ready.kept
       (rights (slot_at (elements st (find st.bound n.id)) j) (i.value ∷ stack) i.turns h.1 h.2 h.5)
       (λ v q e3.
-      subst (λ a. Does c.code (at callers h.2 (v.value ∷ i.value ∷ stack) m v.turns) (settled c callers leaves total to broke continued stack within es) (given a st (λ x. goes_on (stored_at st n.id x v.value) v.turns)))
+      subst (λ a. Does c.code (at callers h.2 (v.value ∷ i.value ∷ stack) m v.turns) (settled c callers leaves total to broke continued stack within es) (with_value a st (λ x. goes_on (stored_at st n.id x v.value) v.turns)))
       (ap (checked size line) z.0 ∙ below_in size j line z.1)
       (stores_at c callers leaves total to broke continued within es top st m v.turns stacked fits len ready.kept ready.aligned n k.entity line h.2 i.value v.value stack h.6.1 named
       (h.6.0 ∙ ap (λ x. Some (storing_at x line)) k.told)))))))
@@ -138,15 +138,15 @@ module _ (c : Context) (callers : List Frame) (leaves : Instr) (total : ℕ) (s 
       let line = open_mark.line in
       let size = length (elements st (find st.bound n.id)) in
       let right : ℤ → BodyState → ℕ → Answer (Left ℤ) = λ old s2 t. and_then (value c.file e s2 t) (λ n. with_turns n.turns (Ok n.value)) in
-      let g : Left Aim → Ran = λ a. given (right (old_value c.file st a.value) st a.turns) st (λ v. goes_on (after_store st a.value v.value) v.turns) in
+      let g : Left Aim → Ran = λ a. with_value (right (old_value c.file st a.value) st a.turns) st (λ v. goes_on (after_store st a.value v.value) v.turns) in
       let f : Left ℤ → Answer (Left Aim) = λ i. and_then (checked size line i.value) (λ j. Ok (left (Element n.id j) i.turns)) in
       subst (Does c.code (at callers from stack m turns) (settled c callers leaves total (end + 1) broke continued stack within es)) (given_then (value c.file i st turns) f st g)
-      (given_does st m (λ x. given (f x) st g) refl ready.kept (expr_runs c callers s es st m ready i from mid stack turns places.1 has_i)
+      (given_does st m (λ x. with_value (f x) st g) refl ready.kept (expr_runs c callers s es st m ready i from mid stack turns places.1 has_i)
       (λ x y e1.
       let q = quiet_gives c.file e st x.turns quiet in
       subst (Does c.code (at callers mid (x.value ∷ stack) m x.turns) (settled c callers leaves total (end + 1) broke continued stack within es)) (given_then (checked size line x.value) (λ j. Ok (left (Element n.id j) x.turns)) st g)
       (subst (λ a. Does c.code (at callers mid (x.value ∷ stack) m x.turns) (settled c callers leaves total (end + 1) broke continued stack within es)
-      (given (checked size line x.value) st (λ j. given (and_then a (λ n. with_turns n.turns (Ok n.value))) st (λ v. goes_on (stored_at st n.id j v.value) v.turns)))) (sym q.1)
+      (with_value (checked size line x.value) st (λ j. with_value (and_then a (λ n. with_turns n.turns (Ok n.value))) st (λ v. goes_on (stored_at st n.id j v.value) v.turns)))) (sym q.1)
       (pushed_on q.0 x.value x.turns (subst (Meets c.code (at callers mid (x.value ∷ stack) m x.turns) (pushed callers end (x.value ∷ stack) m)) q.1
       (expr_runs c callers s es st m ready e mid end (x.value ∷ stack) x.turns (agree_rest c (place_notes s role.Changed (tree.Element n open_mark i)) (expr_notes s e) agree) has_e))
       (stores_at c callers leaves total (end + 1) broke continued within es top st m x.turns stacked fits len ready.kept ready.aligned n k.entity line end x.value q.0 stack refl named

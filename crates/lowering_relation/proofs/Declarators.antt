@@ -1,7 +1,7 @@
 -- The code of declarators does what they say.
 use Rattle.std.proofs.Common.{◌≡◌, ℕ, ◌+◌, ◌<◌, ◌≤◌, ◌&&◌, Bool, true, false, not, List, [], ◌∷◌, ◌++◌, length, set, replicate, Option, Some, None, ℤ, pos, refl, sym, ap, ◌∙◌, subst, arith, length-set, ◌^◌}
 use Rattle.std.specs.Prelude.{unwrap_or}
-use Rattle.cddf_meaning.specs.Flow.{Ran, given, goes_on}
+use Rattle.cddf_meaning.specs.Flow.{Ran, with_value, goes_on}
 use Rattle.cddf_meaning.specs.Run.{Around, run_scalar, array_size, run_array, run_sized, run_declarator, run_declarators}
 use Rattle.cddf_meaning.specs.BodyState.{BodyState, declared, stored}
 use Rattle.cddf_meaning.specs.Variables.{bind}
@@ -149,7 +149,7 @@ module _ (c : Context) (callers : List Frame) (leaves : Instr) (total : ℕ) (si
     array_does n size k from to small fits sized same h =
         let m1 = with_slots m (zeroed m.slots s.slots k) in
         let fits2 : s.slots + k ≤ length m.slots = omega (arith, fits, len) in
-        subst (λ a. Declares from to (array_entry n k ∷ es) (given a st (λ x. goes_on (declared n.id s.unsigned (Array (replicate (array_size x.value) (pos 0))) st) x.turns))) (sym (size_runs c size s es st m (pos k) k turns refl small ready sized))
+        subst (λ a. Declares from to (array_entry n k ∷ es) (with_value a st (λ x. goes_on (declared n.id s.unsigned (Array (replicate (array_size x.value) (pos 0))) st) x.turns))) (sym (size_runs c size s es st m (pos k) k turns refl small ready sized))
         (subst (λ j. Declares from to (array_entry n k ∷ es) (goes_on (declared n.id s.unsigned (Array (replicate j (pos 0))) st) turns)) (sym same)
         (went_on c callers leaves total (array_entry n k ∷ es) (declared n.id s.unsigned (Array (replicate k (pos 0))) st) m1 turns (zeroed_length m.slots s.slots k fits2 ∙ len)
         (kept_slots c.side st m (bind n.id s.unsigned (Array (replicate k (pos 0))) st.bound) (zeroed m.slots s.slots k) ready.kept)

@@ -2,7 +2,7 @@
 use Rattle.std.proofs.Common.{◌≡◌, ℕ, zero, suc, ◌+◌, ◌≤◌, Bool, true, false, if◌then◌else◌, List, ◌∷◌, ◌++◌, length, Some, Ok, ℤ, refl, sym, ap, ◌∙◌, subst, arith, append_assoc}
 use Rattle.c_int.specs.Operators.{is_zero}
 use Rattle.cddf_meaning.specs.Answers.{Answer, Left}
-use Rattle.cddf_meaning.specs.Flow.{Ran, Went, Ended, Runs, given, goes_on, flows, loops, left_state, left_from}
+use Rattle.cddf_meaning.specs.Flow.{Ran, Went, Ended, Runs, with_value, goes_on, flows, loops, left_state, left_from}
 use Rattle.cddf_meaning.specs.Moves.{Falls, Keeps}
 use Rattle.cddf_meaning.specs.Run.{loop}
 use Rattle.cddf_meaning.specs.BodyState.{BodyState}
@@ -47,7 +47,7 @@ kept_made (InMain streams later) st m h = sym h.0
 
 -- what follows an answer
 pub given_does : {A : Type 0} {code : Parts} {s : machine.MachineState} {end : After} {mid : Behind A} {a : Answer A} (st : BodyState) (m : Store) (next : A → Ran) → mid.created ≡ m.created → Kept end.side st m →
-    Meets code s mid a → ((x : A) (w : mid.Known x) → a ≡ Ok x → Does code (mid.state x w) end (next x)) → Does code s end (given a st next)
+    Meets code s mid a → ((x : A) (w : mid.Known x) → a ≡ Ok x → Does code (mid.state x w) end (next x)) → Does code s end (with_value a st next)
 given_does st m next same kept (gives x w l) go = does_from l (go x w refl)
 given_does {end = end} {mid = mid} st m next same kept (halts h) go = ended mid.created h (subst (Made end.side st.activations) (sym same) (kept_made end.side st m kept))
 

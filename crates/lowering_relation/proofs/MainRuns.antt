@@ -3,7 +3,7 @@
 use Rattle.std.proofs.Common.{◌≡◌, ℕ, ◌+◌, ◌-◌, ◌≤◌, Bool, true, false, List, [], ◌∷◌, ◌++◌, length, Option, Some, None, ℤ, pos, refl, sym, ap, ◌∙◌, subst, arith}
 use Rattle.std.specs.Prelude.{unwrap_or}
 use Rattle.cddf_meaning.specs.File.{File}
-use Rattle.cddf_meaning.specs.Flow.{Ran, Went, Ended, Runs, given, goes_on, flows}
+use Rattle.cddf_meaning.specs.Flow.{Ran, Went, Ended, Runs, with_value, goes_on, flows}
 use Rattle.cddf_meaning.specs.Moves.{CallsFall}
 use Rattle.cddf_meaning.specs.Run.{Around, array_size, with_streams, run_declarator, run_declarators, run_all}
 use Rattle.cddf_meaning.specs.Skips.{skips_of}
@@ -202,7 +202,7 @@ module _ (code : Parts) (file : File) (falls : CallsFall file) (names : List Res
       let size : array_size (pos k) ≡ k = ap (λ x. unwrap_or x 0) (limit_kept k known.within) in
       let says : (told_at names n.mark.place).what ≡ what.Stream (2 + s.streams) (unwrap_or (size_of s i.value) 0) = told c [] instr.End total sites s d agree in
       let nothing : from ≡ to = subst (λ w. HasDeclared code (told_at names) w d from to) says h in
-      subst (λ a. MainEnds code (at [] from [] m turns) (flows next (given a st (λ x. goes_on (with_streams n.id s.unsigned (array_size x.value) st) x.turns)))) (sym (size_runs c i.value s es st m (pos k) k turns refl (size_small k known.within) o.ready known.is))
+      subst (λ a. MainEnds code (at [] from [] m turns) (flows next (with_value a st (λ x. goes_on (with_streams n.id s.unsigned (array_size x.value) st) x.turns)))) (sym (size_runs c i.value s es st m (pos k) k turns refl (size_small k known.within) o.ready known.is))
       (subst (λ j. MainEnds code (at [] from [] m turns) (next (with_streams n.id s.unsigned j st) turns)) (sym size)
       (stays_at from to m turns (next (with_streams n.id s.unsigned k st) turns) nothing
       (go (with_streams n.id s.unsigned k st) m turns (streams_behind s es st m d k o refl (ap (what.Stream (2 + s.streams)) count) (ap (λ j. s.streams + j) count) few))))

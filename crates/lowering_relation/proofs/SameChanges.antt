@@ -3,7 +3,7 @@ use Rattle.std.proofs.Common.{◌≡◌, ℕ, ◌==◌, ◌||◌, ◌&&◌, Bool
 use Rattle.std.proofs.lemmas.Bool.{or_right}
 use Rattle.cddf_meaning.specs.Answers.{Answer, Left, left, and_then, with_turns}
 use Rattle.cddf_meaning.specs.File.{File, or_in_file, type_in}
-use Rattle.cddf_meaning.specs.Flow.{Ran, given, goes_on}
+use Rattle.cddf_meaning.specs.Flow.{Ran, with_value, goes_on}
 use Rattle.cddf_meaning.specs.Operators.{binary_value, step_operator}
 use Rattle.cddf_meaning.specs.Run.{assigned, aim_at, old_value, after_store, changed, target_type, run_change, array_size, run_array, window_size, run_window, with_streams, run_sized, run_declarator, run_declarators, run_start}
 use Rattle.cddf_meaning.specs.BodyState.{BodyState, declared, stored_in, stored, stored_in_at}
@@ -138,8 +138,8 @@ module _ (c : Context) (more : List Binding) (apart : AreElse c.file more) (site
       ((old : ℤ) (left_turns : ℕ) → right old st left_turns ≡ right old (with_more more st) left_turns) → Same es within (changed c.file t right st turns) (changed c.file t right (with_more more st) turns)
   changed_same t right st turns es within seen m same =
       given_same c more st (aim_at c.file t st turns) (aim_at c.file t (with_more more st) turns)
-      (λ a. given (right (old_value c.file st a.value) st a.turns) st (λ v. goes_on (after_store st a.value v.value) v.turns))
-      (λ a. given (right (old_value c.file (with_more more st) a.value) (with_more more st) a.turns) (with_more more st) (λ v. goes_on (after_store (with_more more st) a.value v.value) v.turns))
+      (λ a. with_value (right (old_value c.file st a.value) st a.turns) st (λ v. goes_on (after_store st a.value v.value) v.turns))
+      (λ a. with_value (right (old_value c.file (with_more more st) a.value) (with_more more st) a.turns) (with_more more st) (λ v. goes_on (after_store (with_more more st) a.value v.value) v.turns))
       (aim_more c.file more apart st t turns seen)
       (λ a e.
       let own : Seen c.file st.bound (aimed_id a.value) = subst (Seen c.file st.bound) (sym (aim_name c.file t st turns a e)) (own_seen c.file more apart st t seen) in
@@ -202,8 +202,8 @@ module _ (c : Context) (more : List Binding) (apart : AreElse c.file more) (site
     window_same : (w : Bool) (n : NameToken) (i : tree.IndexTree) (st : BodyState) (turns : ℕ) (within : List Entry → Type 0) (after : List Entry) → AllSeen c.file st.bound (expr_names i.value) → ((v : ℕ) → Matches c (bind n.id w (Window v) st.bound) after) →
         Same after within (run_window c.file w n.id i st turns) (run_window c.file w n.id i (with_more more st) turns)
     window_same w n i st turns within after seen m =
-        given_same c more st (value c.file i.value st turns) (value c.file i.value (with_more more st) turns) (λ x. given (window_size i.mark.line x.value) st (λ horizon. goes_on (declared n.id w (Window horizon) st) x.turns))
-        (λ x. given (window_size i.mark.line x.value) (with_more more st) (λ horizon. goes_on (declared n.id w (Window horizon) (with_more more st)) x.turns)) (value_more c.file more apart st i.value turns seen)
+        given_same c more st (value c.file i.value st turns) (value c.file i.value (with_more more st) turns) (λ x. with_value (window_size i.mark.line x.value) st (λ horizon. goes_on (declared n.id w (Window horizon) st) x.turns))
+        (λ x. with_value (window_size i.mark.line x.value) (with_more more st) (λ horizon. goes_on (declared n.id w (Window horizon) (with_more more st)) x.turns)) (value_more c.file more apart st i.value turns seen)
         (λ x q. given_same c more st (window_size i.mark.line x.value) (window_size i.mark.line x.value) (λ horizon. goes_on (declared n.id w (Window horizon) st) x.turns)
         (λ horizon. goes_on (declared n.id w (Window horizon) (with_more more st)) x.turns) refl (λ horizon r. went (declared n.id w (Window horizon) st) x.turns (m horizon)))
 

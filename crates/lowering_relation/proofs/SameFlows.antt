@@ -3,7 +3,7 @@ use Rattle.std.proofs.Common.{◌≡◌, ℕ, zero, suc, ◌+◌, ◌-◌, Bool,
 use Rattle.std.proofs.lemmas.List.{length-map, drop-append-le, map-append}
 use Rattle.c_int.specs.Operators.{is_zero}
 use Rattle.cddf_meaning.specs.Answers.{Answer, Left}
-use Rattle.cddf_meaning.specs.Flow.{Ran, Went, Ended, Runs, given, goes_on, flows, loops, left_state, left_from}
+use Rattle.cddf_meaning.specs.Flow.{Ran, Went, Ended, Runs, with_value, goes_on, flows, loops, left_state, left_from}
 use Rattle.cddf_meaning.specs.Run.{loop}
 use Rattle.cddf_meaning.specs.BodyState.{BodyState}
 use Rattle.cddf_meaning.specs.Variables.{leave}
@@ -45,10 +45,10 @@ module _ (c : Context) (more : List Binding) where
     ended : (e : Ending) (activations : List Activation) → SameRan within after (Ended e activations) (Ended e activations)
 
   pub given_same : {A : Type 0} {within : List Entry → Type 0} {after : List Entry} (st : BodyState) (a b : Answer A) (f g : A → Ran) → a ≡ b → ((x : A) → a ≡ Ok x → SameRan within after (f x) (g x)) →
-      SameRan within after (given a st f) (given b (with_more more st) g)
-  given_same {within = within} {after = after} st a b f g e go = subst (λ y. SameRan within after (given a st f) (given y (with_more more st) g)) e (by_answer a go)
+      SameRan within after (with_value a st f) (with_value b (with_more more st) g)
+  given_same {within = within} {after = after} st a b f g e go = subst (λ y. SameRan within after (with_value a st f) (with_value y (with_more more st) g)) e (by_answer a go)
     where
-      by_answer : (x : Answer _) → ((y : _) → x ≡ Ok y → SameRan within after (f y) (g y)) → SameRan within after (given x st f) (given x (with_more more st) g)
+      by_answer : (x : Answer _) → ((y : _) → x ≡ Ok y → SameRan within after (f y) (g y)) → SameRan within after (with_value x st f) (with_value x (with_more more st) g)
       by_answer (Ok y) go = go y refl
       by_answer (Err ending) go = ended ending st.activations
 

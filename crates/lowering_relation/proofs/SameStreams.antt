@@ -4,7 +4,7 @@ use Rattle.c_int.specs.declared.control_limit.ControlLimit.{ControlLimit}
 use Rattle.cddf_meaning.specs.Answers.{left, and_then, with_turns}
 use Rattle.cddf_meaning.specs.Claims.{with_skips, moves_behind, limit}
 use Rattle.cddf_meaning.specs.File.{or_in_file}
-use Rattle.cddf_meaning.specs.Flow.{given}
+use Rattle.cddf_meaning.specs.Flow.{with_value}
 use Rattle.cddf_meaning.specs.BodyState.{BodyState}
 use Rattle.cddf_meaning.specs.Streams.{first_stream, stream_count, stream_number, cursor_move, burst_of, horizon_of, claim_of, burst, joined, item_claim, items_claims, captured_values, with_activation, unless_limited, task_number, captured_by, run_task, moved, tick_turn, run_tick}
 use Rattle.cddf_meaning.specs.Value.{scalar_value, value, checked}
@@ -132,10 +132,10 @@ module _ (c : Context) (more : List Binding) (apart : AreElse c.file more) (sees
   tick_same t arrow e turns agree =
       let front = place_notes s (role.Flow direction.Reads) t in
       given_same c more st (stream_number c.file t st turns) (stream_number c.file t st2 turns)
-      (λ n. given (value c.file e st n.turns) st (λ v. given (cursor_move arrow.line v.value) st (λ amount. tick_turn n.value amount st v.turns)))
-      (λ n. given (value c.file e st2 n.turns) st2 (λ v. given (cursor_move arrow.line v.value) st2 (λ amount. tick_turn n.value amount st2 v.turns))) (stream_more t direction.Reads turns (agree_first c front (expr_notes s e) agree))
-      (λ n q. given_same c more st (value c.file e st n.turns) (value c.file e st2 n.turns) (λ v. given (cursor_move arrow.line v.value) st (λ amount. tick_turn n.value amount st v.turns))
-      (λ v. given (cursor_move arrow.line v.value) st2 (λ amount. tick_turn n.value amount st2 v.turns)) (expr_more e n.turns (agree_rest c front (expr_notes s e) agree))
+      (λ n. with_value (value c.file e st n.turns) st (λ v. with_value (cursor_move arrow.line v.value) st (λ amount. tick_turn n.value amount st v.turns)))
+      (λ n. with_value (value c.file e st2 n.turns) st2 (λ v. with_value (cursor_move arrow.line v.value) st2 (λ amount. tick_turn n.value amount st2 v.turns))) (stream_more t direction.Reads turns (agree_first c front (expr_notes s e) agree))
+      (λ n q. given_same c more st (value c.file e st n.turns) (value c.file e st2 n.turns) (λ v. with_value (cursor_move arrow.line v.value) st (λ amount. tick_turn n.value amount st v.turns))
+      (λ v. with_value (cursor_move arrow.line v.value) st2 (λ amount. tick_turn n.value amount st2 v.turns)) (expr_more e n.turns (agree_rest c front (expr_notes s e) agree))
       (λ v r. given_same c more st (cursor_move arrow.line v.value) (cursor_move arrow.line v.value) (λ amount. tick_turn n.value amount st v.turns) (λ amount. tick_turn n.value amount st2 v.turns) refl
       (λ amount z. turned n.value amount v.turns)))
     where

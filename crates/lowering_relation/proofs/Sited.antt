@@ -9,7 +9,7 @@ use Rattle.cddf_meaning.specs.Answers.{Answer, and_then, Left, with_turns}
 use Rattle.cddf_meaning.specs.Claims.{limit}
 use Rattle.cddf_meaning.specs.Control.{control, control_in, control_of, control_state, round_main}
 use Rattle.cddf_meaning.specs.File.{File, variable, type_in}
-use Rattle.cddf_meaning.specs.Flow.{Ran, Runs, Went, Ended, given, goes_on, flows, loops, left_from}
+use Rattle.cddf_meaning.specs.Flow.{Ran, Runs, Went, Ended, with_value, goes_on, flows, loops, left_from}
 use Rattle.cddf_meaning.specs.Operators.{binary_value, step_operator}
 use Rattle.cddf_meaning.specs.Program.{Main, main_of}
 use Rattle.cddf_meaning.specs.Run.{Around, loop, assigned, aim_at, old_value, after_store, changed, target_type, run_change, run_scalar, array_size, run_array, run_window, window_size, with_streams, run_streams, run_unsized_or, run_declarator, run_declarators, run_start, run_test, run_step, run, run_all}
@@ -84,7 +84,7 @@ module _ (n : ℕ) where
   on_sited : (s t : BodyState) (turns : ℕ) → t.activations ≡ s.activations → AreSited n s.activations → Sited (goes_on t turns)
   on_sited s t turns same h = subst (AreSited n) (sym same) h
 
-  given_sited : {A : Type 0} (s : BodyState) (a : Answer A) (next : A → Ran) → AreSited n s.activations → ((v : A) → Sited (next v)) → Sited (given a s next)
+  given_sited : {A : Type 0} (s : BodyState) (a : Answer A) (next : A → Ran) → AreSited n s.activations → ((v : A) → Sited (next v)) → Sited (with_value a s next)
   given_sited s (Ok v) next h f = f v
   given_sited s (Err ending) next h f = h
 
@@ -117,7 +117,7 @@ module _ (n : ℕ) where
   changed_sited : (file : File) (t : tree.TargetTree) (right : ℤ → BodyState → ℕ → Answer (Left ℤ)) → RunsSited (changed file t right)
   changed_sited file t right s turns h =
       given_sited s (aim_at file t s turns)
-      (λ a. given (right (old_value file s a.value) s a.turns) s (λ v. goes_on (after_store s a.value v.value) v.turns)) h
+      (λ a. with_value (right (old_value file s a.value) s a.turns) s (λ v. goes_on (after_store s a.value v.value) v.turns)) h
       (λ a. given_sited s (right (old_value file s a.value) s a.turns) (λ v. goes_on (after_store s a.value v.value) v.turns) h
       (λ v. on_sited s (after_store s a.value v.value) v.turns (after_store-made s a.value v.value) h))
 
@@ -142,7 +142,7 @@ module _ (n : ℕ) where
   window_sited : (file : File) (w : Bool) (id : ℕ) (i : tree.IndexTree) → RunsSited (run_window file w id i)
   window_sited file w id i s turns h =
       given_sited s (value file i.value s turns)
-      (λ n. given (window_size i.mark.line n.value) s (λ horizon. goes_on (declared id w (Window horizon) s) n.turns)) h
+      (λ n. with_value (window_size i.mark.line n.value) s (λ horizon. goes_on (declared id w (Window horizon) s) n.turns)) h
       (λ n. given_sited s (window_size i.mark.line n.value) (λ horizon. goes_on (declared id w (Window horizon) s) n.turns) h (λ horizon. h))
 
   array_sited : (file : File) (w : Bool) (id : ℕ) (size : tree.ExprTree) → RunsSited (run_array file w id size)
@@ -204,8 +204,8 @@ module _ (n : ℕ) where
   tick_sited : (file : File) (t : tree.TargetTree) (arrow : Mark) (e : tree.ExprTree) → RunsSited (run_tick file t arrow e)
   tick_sited file t arrow e s turns h =
       given_sited s (stream_number file t s turns)
-      (λ k. given (value file e s k.turns) s (λ v. given (cursor_move arrow.line v.value) s (λ amount. tick_turn k.value amount s v.turns))) h
-      (λ k. given_sited s (value file e s k.turns) (λ v. given (cursor_move arrow.line v.value) s (λ amount. tick_turn k.value amount s v.turns)) h
+      (λ k. with_value (value file e s k.turns) s (λ v. with_value (cursor_move arrow.line v.value) s (λ amount. tick_turn k.value amount s v.turns))) h
+      (λ k. given_sited s (value file e s k.turns) (λ v. with_value (cursor_move arrow.line v.value) s (λ amount. tick_turn k.value amount s v.turns)) h
       (λ v. given_sited s (cursor_move arrow.line v.value) (λ amount. tick_turn k.value amount s v.turns) h
       (λ amount. turn_sited k.value amount s v.turns h)))
 

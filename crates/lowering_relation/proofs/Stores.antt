@@ -4,7 +4,7 @@ use Rattle.std.proofs.lemmas.Bool.{lt-ltb}
 use Rattle.std.specs.Prelude.{slice_get, slice_set}
 use Rattle.c_int.specs.declared.trap.Trap.TheVariants as trap_of
 use Rattle.cddf_meaning.specs.Answers.{traps}
-use Rattle.cddf_meaning.specs.Flow.{given, goes_on}
+use Rattle.cddf_meaning.specs.Flow.{with_value, goes_on}
 use Rattle.cddf_meaning.specs.BodyState.{BodyState, item_elements, with_element, stored_in, stored, stored_in_at, stored_at}
 use Rattle.cddf_meaning.specs.Value.{elements, checked}
 use Rattle.cddf_meaning.specs.Variables.{find, assign}
@@ -79,7 +79,7 @@ module _ (c : Context) (callers : List Frame) (leaves : Instr) (total next broke
   item_store : (k line p : ℕ) (v x : ℤ) (stack : List ℤ) (st : BodyState) (m : Store) (turns : ℕ) → p + 1 ≡ next → length m.slots ≡ total → HasItem c.side k → Kept c.side st m →
       AlignedIn c callers leaves total m st.bound es → instr_at c.code p ≡ Some (instr.ItemStore k line) →
       Does c.code (at callers p (x ∷ v ∷ stack) m turns) (settled c callers leaves total next broke continued stack within es)
-      (given (checked (length (item_elements st k)) line v) st (λ i. goes_on (with_element st k i x) turns))
+      (with_value (checked (length (item_elements st k)) line v) st (λ i. goes_on (with_element st k i x) turns))
   unfolding act
   item_store k line p v x stack st m turns there len has kept al is =
       let w = window_of c.side st m k has kept in
@@ -96,7 +96,7 @@ module _ (c : Context) (callers : List Frame) (leaves : Instr) (total next broke
       AlignedIn c callers leaves total m st.bound es → instr_at c.code p ≡ Some (instr.ItemStore k line) →
       Does c.code (at callers p (x ∷ pos 0 ∷ stack) m turns) (settled c callers leaves total next broke continued stack within es) (goes_on (with_element st k 0 x) turns)
   item_first_store k line p x stack st m turns there len has kept al is =
-      subst (λ a. Does c.code (at callers p (x ∷ pos 0 ∷ stack) m turns) (settled c callers leaves total next broke continued stack within es) (given a st (λ i. goes_on (with_element st k i x) turns)))
+      subst (λ a. Does c.code (at callers p (x ∷ pos 0 ∷ stack) m turns) (settled c callers leaves total next broke continued stack within es) (with_value a st (λ i. goes_on (with_element st k i x) turns)))
       (below_in (length (item_elements st k)) 0 line (omega (arith, (window_of c.side st m k has kept).some)))
       (item_store k line p (pos 0) x stack st m turns there len has kept al is)
 
@@ -158,7 +158,7 @@ module _ (c : Context) (callers : List Frame) (leaves : Instr) (total next broke
 
     abbrev StoresAt : ℕ → ℕ → ℤ → ℤ → List ℤ → Option Variable → ℕ → Type 0
     StoresAt line p v x stack o id = Does c.code (at callers p (x ∷ v ∷ stack) m turns) (settled c callers leaves total next broke continued stack within es)
-        (given (checked (length (elements st o)) line v) st (λ k. goes_on (stored_in_at o st id k x) turns))
+        (with_value (checked (length (elements st o)) line v) st (λ k. goes_on (stored_in_at o st id k x) turns))
 
     array_store : (vs : List ℤ) (first line p : ℕ) (id : ℕ) (d : Entity) (v x : ℤ) (stack : List ℤ) → p + 1 ≡ next → means c d ≡ what.Array first (length vs) →
         entity_of (lookup (es ++ c.bound) id) ≡ Some d → ((i : ℕ) → i < length vs → slot_at m.slots (first + i) ≡ slot_at vs i) →
@@ -177,7 +177,7 @@ module _ (c : Context) (callers : List Frame) (leaves : Instr) (total next broke
     unfolding act
     nothing_stored o line p id v x stack none store =
         let s = at callers p (x ∷ v ∷ stack) m turns in
-        subst (λ (xs : List ℤ). Does c.code s (settled c callers leaves total next broke continued stack within es) (given (checked (length xs) line v) st (λ k. goes_on (stored_in_at o st id k x) turns))) (sym none)
+        subst (λ (xs : List ℤ). Does c.code s (settled c callers leaves total next broke continued stack within es) (with_value (checked (length xs) line v) st (λ k. goes_on (stored_in_at o st id k x) turns))) (sym none)
         (given_does st m (λ k. goes_on (stored_in_at o st id k x) turns) refl kept
         (checks c.code s v 0 line (λ k. at callers (p + 1) stack (with_slots m (slice_set m.slots (0 + k) x)) turns) (acts c.code s (instr.StoreAt 0 0 line) store))
         (λ k u e. absurd (omega (arith, u.1))))
@@ -199,7 +199,7 @@ module _ (c : Context) (callers : List Frame) (leaves : Instr) (total next broke
     -- a name with an index is set, which is checked
     pub stores_at : (n : Name) (d : Entity) (line p : ℕ) (i x : ℤ) (stack : List ℤ) → p + 1 ≡ next → Named c es m.slots st n d → instr_at c.code p ≡ Some (storing_at (means c d) line) →
         Does c.code (at callers p (x ∷ i ∷ stack) m turns) (settled c callers leaves total next broke continued stack within es)
-        (given (checked (length (elements st (find st.bound n.id))) line i) st (λ k. goes_on (stored_at st n.id k x) turns))
+        (with_value (checked (length (elements st (find st.bound n.id))) line i) st (λ k. goes_on (stored_at st n.id k x) turns))
     stores_at n d line p i x stack there (inl (found, (v, is, h))) store =
         subst (λ o. StoresAt line p i x stack o n.id) (sym is) (stores_variable_at v (means c d) n.id d line p i x stack there refl found h store)
     stores_at n d line p i x stack there (inr (none, h)) store =

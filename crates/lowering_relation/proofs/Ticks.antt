@@ -3,7 +3,7 @@ use Rattle.std.proofs.Common.{◌≡◌, ℕ, zero, suc, ◌+◌, ◌<◌, ◌�
 use Rattle.std.specs.Prelude.{slice_set}
 use Rattle.c_int.specs.declared.trap.Trap.TheVariants as trap_of
 use Rattle.cddf_meaning.specs.File.{File}
-use Rattle.cddf_meaning.specs.Flow.{given}
+use Rattle.cddf_meaning.specs.Flow.{with_value}
 use Rattle.cddf_meaning.specs.Moves.{CallsFall}
 use Rattle.cddf_meaning.specs.BodyState.{BodyState}
 use Rattle.cddf_meaning.specs.Streams.{cursor_move, moved, tick_turn}
@@ -70,9 +70,9 @@ module _ (code : Parts) (file : File) (falls : CallsFall file) (names : List Res
   pub tick_does : (mark : Mark) (t : tree.TargetTree) (arrow : Mark) (e : tree.ExprTree) → StmtDoes c callers leaves total sites tasks known (tree.Tick mark t arrow e)
   tick_does mark t arrow e s es st m broke continued next from to stack turns ready stacked fits2 len agree own h =
       let x = target_stream code file falls names ordered file_es fits streams later callers s es st m ready t direction.Reads (agree_first c (place_notes s (role.Flow direction.Reads) t) (expr_notes s e) agree.1) in
-      given_does st m (λ n. given (value file e st n.turns) st (λ v. given (cursor_move arrow.line v.value) st (λ amount. tick_turn n.value amount st v.turns))) refl ready.kept
+      given_does st m (λ n. with_value (value file e st n.turns) st (λ v. with_value (cursor_move arrow.line v.value) st (λ amount. tick_turn n.value amount st v.turns))) refl ready.kept
       (x.runs from h.0 stack turns h.2)
-      (λ n w q. given_does st m (λ v. given (cursor_move arrow.line v.value) st (λ amount. tick_turn n.value amount st v.turns)) refl ready.kept
+      (λ n w q. given_does st m (λ v. with_value (cursor_move arrow.line v.value) st (λ amount. tick_turn n.value amount st v.turns)) refl ready.kept
       (expr_runs c callers s es st m ready e h.0 h.1 (pos w.0 ∷ stack) n.turns (agree_rest c (place_notes s (role.Flow direction.Reads) t) (expr_notes s e) agree.1) h.3)
       (λ v u r. given_does st m (λ amount. tick_turn n.value amount st v.turns) refl ready.kept
       (burst_in code callers arrow.line h.1 v.value (pos w.0 ∷ stack) m v.turns h.4.0)

@@ -4,7 +4,7 @@ use Rattle.std.proofs.lemmas.Bool.{and_parts}
 use Rattle.c_int.specs.declared.trap.Trap.TheVariants as trap_of
 use Rattle.cddf_meaning.specs.Answers.{traps}
 use Rattle.cddf_meaning.specs.File.{File}
-use Rattle.cddf_meaning.specs.Flow.{given, goes_on}
+use Rattle.cddf_meaning.specs.Flow.{with_value, goes_on}
 use Rattle.cddf_meaning.specs.Moves.{CallsFall}
 use Rattle.cddf_meaning.specs.Run.{window_size, run_window}
 use Rattle.cddf_meaning.specs.BodyState.{BodyState, declared}
@@ -97,7 +97,7 @@ module _ (code : Parts) (file : File) (falls : CallsFall file) (names : List Res
   pub window_done : (n : Name) (i : tree.IndexTree) (first : Option tree.ExprTree) → DeclaratorRuns c callers leaves total sites (record { name = n; size = Some i; stream = false; first = first })
   window_done n i first s es st m broke continued from to stack turns within ready stacked fits2 len agree h =
       subst (λ f. WindowGoal f n i s es st m broke continued from to stack turns within) (sym is_form)
-      (given_does st m (λ x. given (window_size i.mark.line x.value) st (λ horizon. goes_on (declared n.id s.unsigned (Window horizon) st) x.turns)) refl ready.kept
+      (given_does st m (λ x. with_value (window_size i.mark.line x.value) st (λ horizon. goes_on (declared n.id s.unsigned (Window horizon) st) x.turns)) refl ready.kept
       (expr_runs c callers s es st m ready i.value from has.0 stack turns size_agrees has.1)
       (λ x u q. given_does st m (λ horizon. goes_on (declared n.id s.unsigned (Window horizon) st) x.turns) refl ready.kept
       (size_kept code callers s.slots i.mark.line has.0 x.value stack m x.turns has.2.0)
