@@ -2,10 +2,7 @@ ghost use Rattle.std.specs.Prelude.{◌≡◌, ◌≤◌, length};
 ghost use Rattle.os_serve_answers.specs.Replies.{reply_by, reply_of};
 
 use os_serve_jobs::MemorySink;
-use osrun_core_jobs::Status;
-
-/// What is told where a line names no job.
-const USAGE: &[u8] = b"usage\n";
+use osrun_core_jobs::{Status, USAGE};
 
 /// What a job came to.
 #[derive(Drop)]
