@@ -86,7 +86,7 @@ impl<'c> ControlRun<'c> {
         ensures answer { IfOk result (λ ended. ended ≡ nat_lt (length (remaining self.old)) at_most) }
         ensures run { IfOk result (λ _. self.new ≡ advanced self.old at_most) }
         ensures some_of_them { OnErr result (IsPartOfStretch self.old at_most self.new into.old into.new) }
-        // what was given so far and in this call is what is given now, and all of them where the run has ended
+        // what the run had given and what this call gives are together what it has now given: all of it where the run has ended
         ensures joined { IfOk result (λ _. given_by self.new ≡ given_by self.old ++ take at_most (remaining self.old)) }
         ensures all { IfOk result (λ ended. IsTrue ended → given_by self.new ≡ (whole self.new).activations) }
         // each of them fits the code, and they are what a layout takes

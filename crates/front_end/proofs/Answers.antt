@@ -2,6 +2,7 @@
 use Rattle.std.proofs.Common.{◌≡◌, ℕ, ◌⊎◌, inl, inr, List, [], ◌∷◌, All, Contains, Result, Err, refl, ap, ◌∙◌, sym, subst, arith}
 use Rattle.std.proofs.lemmas.List.Elements.{All-cons, All-contains, All-nil}
 use Rattle.front_end.proofs.Lines.{KindsAreSpelled, MarksAreOfTokens, least_is_one}
+use Rattle.front_end.specs.Codes.{no_program}
 use Rattle.front_end.specs.Texts.{AcceptedOrRefused, IsProgramOf, IsAccepted, IsNoProgram, IsRefused, has_fault, is_no_program, has_violation, IsTrueOf, NeverBoth, OneProgram, OneRefusal}
 use Rattle.front_end.specs.Told.{told_fault, told_syntax, told_violation}
 use Rattle.os_ast.specs.Codes.{code as code_of}
@@ -119,7 +120,7 @@ accepted_or_refused some place text = by_cover (some text)
     by_tokens tokens cover (inl (p, means)) = by_program tokens p cover means (judged p)
     by_tokens tokens cover (inr none) =
         let at = place tokens none in
-        inr (4, line_at tokens at.0, is_no_program (tokens, at.0, cover, record { none = none; at = at.1; of_line = refl }))
+        inr (no_program, line_at tokens at.0, is_no_program (tokens, at.0, cover, record { none = none; at = at.1; of_line = refl }))
 
     by_cover : ((tokens : List Token) × IsTokenCover text tokens) ⊎ ((code : ℕ) × (line : ℕ) × IsFirstFault text code line) → IsAnswered text
     by_cover (inl (tokens, cover)) = by_tokens tokens cover (decided tokens)

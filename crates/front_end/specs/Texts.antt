@@ -1,5 +1,6 @@
 -- What a text means, and what is wrong with one that isn't accepted.
 use Rattle.std.specs.Prelude.{◌≡◌, ◌⊎◌, ⊤, ℕ, List, []}
+use Rattle.front_end.specs.Codes.{no_program}
 use Rattle.front_end.specs.declared.text_error.TextError.{TextError}
 use Rattle.front_end.specs.declared.text_error.TextError.TheVariants as errors
 use Rattle.os_ast.specs.Codes.{code}
@@ -31,7 +32,7 @@ HasLeastViolation text c line = (p : ProgramTree) × (v : Violation) × IsProgra
 -- violation. The later ones need a cover, and the last one a program.
 pub data IsRefused (text : List ℕ) : ℕ → ℕ → Type 0 where
   has_fault : {code line : ℕ} → IsFirstFault text code line → IsRefused text code line
-  is_no_program : {line : ℕ} → IsNoProgram text line → IsRefused text 4 line
+  is_no_program : {line : ℕ} → IsNoProgram text line → IsRefused text no_program line
   has_violation : {code line : ℕ} → HasLeastViolation text code line → IsRefused text code line
 
 -- an error says what is wrong, or that memory ran out

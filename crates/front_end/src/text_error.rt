@@ -1,6 +1,9 @@
 ghost use Rattle.std.specs.Prelude.{◌≡◌};
+ghost use Rattle.front_end.specs.Codes.{fault_code};
 ghost use Rattle.front_end.specs.Told.{told_fault, told_syntax, told_violation};
+ghost use Rattle.front_end.specs.declared.text_error.TextError.TheVariants as errors;
 
+use crate::text_fault::TextFault;
 use os_ast::NO_PROGRAM;
 use os_lexer::LexError;
 use os_parser::ParseError;
@@ -19,14 +22,24 @@ pub enum TextError {
     Memory,
 }
 
+/// What is told of a fault in a line.
+fn refused_for(fault: TextFault, line: u32) -> TextError
+    ensures { result ≡ errors.Refused (fault_code fault) line }
+{
+    TextError::Refused {
+        code: fault.code(),
+        line,
+    }
+}
+
 /// What the first fault of a text is told as.
 pub(crate) fn fault_error(error: LexError) -> TextError
     ensures { result ≡ told_fault error }
 {
     match error {
-        LexError::BadByte { line } => TextError::Refused { code: 1, line },
-        LexError::OpenComment { line } => TextError::Refused { code: 2, line },
-        LexError::BigNumber { line } => TextError::Refused { code: 3, line },
+        LexError::BadByte { line } => refused_for(TextFault::BadByte, line),
+        LexError::OpenComment { line } => refused_for(TextFault::OpenComment, line),
+        LexError::BigNumber { line } => refused_for(TextFault::BigNumber, line),
         LexError::Memory => TextError::Memory,
     }
 }

@@ -3,7 +3,7 @@
 ghost use Rattle.os_object.specs.Object.{OneReading};
 ghost use Rattle.os_object.specs.RoundTrip.{ReadsWhatIsWritten, WritesWhatIsRead, CodesRun};
 
-/// Bytes spell at most one parts of a code.
+/// Bytes spell the parts of at most one code.
 pub fn one_reading()
     ensures { OneReading }
 {}

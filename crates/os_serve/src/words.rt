@@ -11,12 +11,9 @@ use crate::asked::{Asked, asks_for};
 use crate::serving::serve;
 use os_io::{Files, Sink};
 use osrun_core::{Gate, run_words};
-use osrun_core_jobs::{Status, tell};
+use osrun_core_jobs::{Status, USAGE, tell};
 use std::alloc::Global;
 use std::thread::Threads;
-
-/// What is told where the words ask for a server, but not of one file.
-const USAGE: &[u8] = b"usage\n";
 
 /// Runs the command that the words name, and answers the status of the process. Where the first word is `serve`, it answers the jobs
 /// of a file on `out`; else it is `run_words`, and `jobs` isn't touched.

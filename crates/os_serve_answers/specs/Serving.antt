@@ -113,7 +113,7 @@ pub record Serves {J F O E : Type 0} (of_jobs : FilesView J) (jobs_old jobs_new 
 -- What a call leaves whose words begin with `serve` and aren't exactly that and a name: it tells so, and touches nothing else.
 pub record RefusesWords {J F O E : Type 0} (jobs_old jobs_new : J) (files_old files_new : F) (out_old out_new : O) (of_report : SinkView E)
     (report_old report_new : E) (status : ℕ) : Type 0 where
-  pub status_is : status ≡ 2
+  pub status_is : status ≡ code_of statuses.BadWords
   pub report : Tells of_report report_old report_new usage_line
   pub jobs_kept : jobs_new ≡ jobs_old
   pub files_kept : files_new ≡ files_old

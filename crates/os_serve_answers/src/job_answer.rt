@@ -2,13 +2,7 @@ ghost use Rattle.std.specs.Prelude.{◌≡◌, ◌≤◌, length};
 ghost use Rattle.os_serve_answers.specs.Replies.{reply_by, reply_of};
 
 use os_serve_jobs::MemorySink;
-
-/// The status of words that name no job.
-const BAD_WORDS: u8 = 2;
-/// The status where memory could not be had.
-const NO_MEMORY: u8 = 7;
-/// What is told where a line names no job.
-const USAGE: &[u8] = b"usage\n";
+use osrun_core_jobs::{Status, USAGE};
 
 /// What a job came to.
 #[derive(Drop)]
@@ -45,8 +39,8 @@ impl JobAnswer {
         ensures { result ≡ (reply_of self.now).status }
     {
         match self {
-            JobAnswer::NoJob => BAD_WORDS,
-            JobAnswer::NoMemory => NO_MEMORY,
+            JobAnswer::NoJob => Status::BadWords.code(),
+            JobAnswer::NoMemory => Status::NoMemory.code(),
             JobAnswer::Done { status, .. } => *status,
         }
     }

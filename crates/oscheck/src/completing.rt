@@ -7,10 +7,9 @@ use crate::completion::completion;
 use crate::judged::Judged;
 use crate::judging::tell_fault;
 use crate::telling::{Named, tell_no_memory};
-use front_end::{TEXT_LIMIT, TextError, read_program};
+use front_end::{TEXT_LIMIT, TextError, TextFault, read_program};
 use os_ast::NO_PROGRAM;
 use os_io::Memory;
-use oscheck_places::TextFault;
 use std::alloc::Global;
 use std::io;
 

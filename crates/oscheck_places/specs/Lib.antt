@@ -1,3 +1,2 @@
--- What a reader believes: lines and columns, and the codes of faults.
-pub mod Faults
+-- What a reader believes: lines and columns.
 pub mod Lines

@@ -5,7 +5,7 @@ ghost use Rattle.std.specs.Prelude.{◌≤◌, length, IfOk, IfSome};
 ghost use Rattle.os_lexer.specs.Limits.{text_limit};
 
 use crate::spot::Spot;
-use crate::text_fault::TextFault;
+use front_end::TextFault;
 use os_io::Memory;
 use os_lexer::{LexError, lex};
 use std::alloc::Global;

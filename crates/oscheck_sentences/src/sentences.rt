@@ -1,9 +1,9 @@
 //! What each rule and each fault says to who wrote the text: what is wrong, and what to do.
 
 use crate::word::Word;
+use front_end::TextFault;
 use os_ast::Rule;
 use os_lexer::Kind;
-use oscheck_places::TextFault;
 use std::io;
 
 /// A sentence about a word, which stands between its two parts.

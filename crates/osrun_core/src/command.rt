@@ -8,15 +8,12 @@ use osrun_core_answer::{
     answer_compile, answer_exec, answer_explain, answer_gen, answer_replay, answer_run,
     answer_trace,
 };
-use osrun_core_jobs::{Request, Status, tell};
+use osrun_core_jobs::{Request, Status, USAGE, tell};
 use osrun_core_run::laws::never_usable_and_refused;
 use osrun_core_words::{WordsError, command};
 use std::alloc::Global;
 use std::thread::Threads;
 use task_workers::Gate;
-
-/// What is told where the words name no job.
-const USAGE: &[u8] = b"usage\n";
 
 /// Runs the command that the words name, and answers the status of the process. What it leaves is said by one record: the status
 /// and its cause, what the sinks took, and what was opened and read in which order. `laws::answers_say` has what that comes to,

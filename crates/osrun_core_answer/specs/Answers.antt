@@ -75,7 +75,7 @@ pub record IsUnmade {O E : Type 0} (out_old out_new : O) (report_old report_new 
 pub record IsNotReplayed {F O E : Type 0} (of_files : FilesView F) (files_old files_new : F) (out_old out_new : O)
     (of_report : SinkView E) (report_old report_new : E) (asked : Option Request) : Type 0 where
   pub made : IsMade of_files files_old files_new asked
-  pub own : made.outcome.own ≡ 8
+  pub own : made.outcome.own ≡ code_of statuses.NotReplayed
   pub output_kept : out_new ≡ out_old
   pub report : Tells of_report report_old report_new made.outcome.told
 
@@ -83,9 +83,9 @@ pub record IsNotReplayed {F O E : Type 0} (of_files : FilesView F) (files_old fi
 abbrev pub HasCause : {F O E : Type 0} → FilesView F → F → F → SinkView O → O → O → SinkView E → E → E → Option Request → Status
     → Type 0
 HasCause of_files files_old files_new of_out out_old out_new of_report report_old report_new asked statuses.AllDone =
-    IsGiven of_files files_old files_new of_out out_old out_new of_report report_old report_new asked 0
+    IsGiven of_files files_old files_new of_out out_old out_new of_report report_old report_new asked (code_of statuses.AllDone)
 HasCause of_files files_old files_new of_out out_old out_new of_report report_old report_new asked statuses.NotAllDone =
-    IsGiven of_files files_old files_new of_out out_old out_new of_report report_old report_new asked 1
+    IsGiven of_files files_old files_new of_out out_old out_new of_report report_old report_new asked (code_of statuses.NotAllDone)
 HasCause of_files files_old files_new of_out out_old out_new of_report report_old report_new asked statuses.BadWords =
     IsUnasked files_old files_new out_old out_new of_report report_old report_new asked
 HasCause of_files files_old files_new of_out out_old out_new of_report report_old report_new asked statuses.Refused =

@@ -98,11 +98,11 @@ MakesRun view old new job result = MatchResult result (IsMadeOf view old new job
 abbrev pub MakesExec : {F : Type 0} → FilesView F → F → F → ExecJob → Result Run Refusal → Type 0
 MakesExec view old new job result = MatchResult result (IsExecOf view old new job) (IsUnmadeOf view old new (files_of (Exec job)))
 
--- what is meant to be given where this is told
+-- what `explain` is meant to give where it tells this: the text on the output, and the status
 abbrev pub told_outcome : Explanation → JobOutcome
 told_outcome explanation = record { output = string_bytes explanation.text; told = []; own = code_of explanation.status }
 
--- the files were read, and what is told is what is meant to be given over them
+-- the files were read, and the explanation is what the job is meant to give over their bytes
 abbrev pub IsExplainedOf : {F : Type 0} → FilesView F → F → F → ExplainJob → Explanation → Type 0
 IsExplainedOf view old new job explanation =
     (contents : List (List ℕ)) × WereRead IsUsable view old new (files_of (Explain job)) contents × IsOutcomeOfExplain contents job (told_outcome explanation)

@@ -3,9 +3,9 @@
 //!
 //! `load` reads one file, as far as its limit, or says why it can't be used. `deliver` writes bytes and then lines, and answers
 //! the status that it was given where all was taken. `refuse` tells a refusal in a line and answers its status, and `tell` writes
-//! any line; none of these three takes memory. Files and sinks are given by their traits, and the contracts say what each counted
-//! and took. Nothing is said here of words, nor of what a file's bytes mean: what makes a file usable is handed to the
-//! definitions.
+//! any line, as `USAGE`; none of these three takes memory. Files and sinks are given by their traits, and the contracts say what
+//! each counted and took. Nothing is said here of words, nor of what a file's bytes mean: what makes a file usable is handed to
+//! the definitions.
 #![tactic(auto)]
 
 mod delivering;
@@ -23,4 +23,4 @@ pub use loading::load;
 pub use refusal::Refusal;
 pub use status::Status;
 pub use subject::Subject;
-pub use telling::{refuse, tell};
+pub use telling::{USAGE, refuse, tell};

@@ -12,6 +12,9 @@ use crate::status::Status;
 use crate::subject::Subject;
 use os_io::{Sink, write_whole};
 
+/// The line that is told where words name no job.
+pub const USAGE: &[u8] = b"usage\n";
+
 /// Writes a line. Where the sink fails, a front of the line was written.
 pub fn tell<S: Sink>(sink: &mut S, text: &[u8])
     ensures { Tells S.Sink sink.old sink.new text.now }

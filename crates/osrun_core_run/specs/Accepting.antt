@@ -6,6 +6,7 @@ use Rattle.os_object.specs.declared.object_error.ObjectError.{ObjectError}
 use Rattle.os_object.specs.declared.object_error.ObjectError.TheVariants as objects
 use Rattle.osrun_core_jobs.specs.declared.refusal.Refusal.{Refusal}
 use Rattle.osrun_core_jobs.specs.declared.refusal.Refusal.TheVariants as refusals
+use Rattle.osrun_core_run.specs.Refusal.{no_parts, no_trace, not_valid}
 use Rattle.trace_replay_text.specs.declared.trace_error.TraceError.{TraceError}
 use Rattle.trace_replay_text.specs.declared.trace_error.TraceError.TheVariants as traces
 
@@ -14,10 +15,10 @@ text_refusal (errors.Refused code line) = refusals.Refused code (Some line)
 text_refusal errors.Memory = refusals.Memory
 
 abbrev pub object_refusal : ObjectError → Refusal
-object_refusal objects.Format = refusals.Refused 30 None
-object_refusal objects.Invalid = refusals.Refused 31 None
+object_refusal objects.Format = refusals.Refused no_parts None
+object_refusal objects.Invalid = refusals.Refused not_valid None
 object_refusal objects.Memory = refusals.Memory
 
 abbrev pub trace_refusal : TraceError → Refusal
-trace_refusal (traces.Line line) = refusals.Refused 40 (Some line)
+trace_refusal (traces.Line line) = refusals.Refused no_trace (Some line)
 trace_refusal traces.Memory = refusals.Memory

@@ -20,22 +20,34 @@ IsUsable Input bytes = Unit {0}
 IsUsable Object bytes = (code : Parts) × IsObjectOf bytes code
 IsUsable Trace bytes = (lists : List (List ℕ)) × IsTraceOf bytes lists
 
--- An object is refused by the code 30 exactly where the bytes spell no parts of a code, and by 31 exactly where they spell parts
--- that aren't valid.
+-- the code by which bytes are refused that spell no parts of a code
+abbrev pub no_parts : ℕ
+no_parts = 30
+
+-- the code by which parts are refused that aren't valid
+abbrev pub not_valid : ℕ
+not_valid = 31
+
+-- the code by which bytes are refused that are no trace
+abbrev pub no_trace : ℕ
+no_trace = 40
+
+-- An object is refused by `no_parts` exactly where the bytes spell no parts of a code, and by `not_valid` exactly where they spell
+-- parts that aren't valid.
 abbrev pub IsNoObject : List ℕ → ℕ → Type 0
-IsNoObject bytes code = ((code ≡ 30) × ((parts : Parts) → Spells bytes parts → ⊥))
-    ⊎ ((code ≡ 31) × ((parts : Parts) × Spells bytes parts × (IsValid parts → ⊥)))
+IsNoObject bytes code = ((code ≡ no_parts) × ((parts : Parts) → Spells bytes parts → ⊥))
+    ⊎ ((code ≡ not_valid) × ((parts : Parts) × Spells bytes parts × (IsValid parts → ⊥)))
 
 -- They are refused as such a file: a text by a code and a line, those of its first fault, of the place where it stops being the
 -- front of a program, or of its least violation. No input is refused. An object is refused by a code alone. A trace
--- is refused by the code 40 and its first line that isn't a trace's.
+-- is refused by `no_trace` and its first line that isn't a trace's.
 abbrev pub IsUnusable : Subject → List ℕ → ℕ → Option ℕ → Type 0
 IsUnusable Program bytes code (Some line) = IsRefused bytes code line
 IsUnusable Program bytes code None = ⊥
 IsUnusable Input bytes code line = ⊥
 IsUnusable Object bytes code (Some line) = ⊥
 IsUnusable Object bytes code None = IsNoObject bytes code
-IsUnusable Trace bytes code (Some line) = (code ≡ 40) × IsFirstWrongLine bytes line
+IsUnusable Trace bytes code (Some line) = (code ≡ no_trace) × IsFirstWrongLine bytes line
 IsUnusable Trace bytes code None = ⊥
 
 -- the bytes of such a file are refused so

@@ -113,16 +113,16 @@ impl Options {
     }
 }
 
-/// Words, without their options.
+/// What words give: names and numbers in their order, and options.
 #[derive(Clone, Copy, Debug)]
-pub(crate) struct Parts<'w> {
+pub(crate) struct ParsedWords<'w> {
     names: [&'w str; MOST],
     /// How many names and numbers there are.
     pub(crate) count: usize,
     pub(crate) options: Options,
 }
 
-impl<'w> Parts<'w> {
+impl<'w> ParsedWords<'w> {
     /// The name or the number at a place; nothing behind the last one.
     pub(crate) fn name(&self, place: usize) -> &'w str {
         match self.names.get(place) {
@@ -132,16 +132,16 @@ impl<'w> Parts<'w> {
     }
 
     /// These with one more name or number, where there are not too many.
-    fn with_name(self, name: &'w str) -> Option<Parts<'w>>
+    fn with_name(self, name: &'w str) -> Option<ParsedWords<'w>>
         requires { AreWithin self.options }
-        ensures { IfSome result (λ parts. AreWithin parts.options) }
+        ensures { IfSome result (λ parsed. AreWithin parsed.options) }
     {
         if self.count >= MOST || name.starts_with('-') {
             return None;
         }
         let mut names = self.names;
         names[self.count] = name;
-        Some(Parts {
+        Some(ParsedWords {
             names,
             count: self.count + 1,
             options: self.options,
@@ -149,20 +149,20 @@ impl<'w> Parts<'w> {
     }
 
     /// These with one more option.
-    fn with_option(self, name: &str, value: &str) -> Option<Parts<'w>>
+    fn with_option(self, name: &str, value: &str) -> Option<ParsedWords<'w>>
         requires { AreWithin self.options }
-        ensures { IfSome result (λ parts. AreWithin parts.options) }
+        ensures { IfSome result (λ parsed. AreWithin parsed.options) }
     {
         let options = self.options.with(name, value)?;
-        Some(Parts { options, ..self })
+        Some(ParsedWords { options, ..self })
     }
 }
 
-/// What words have, where each is a name or a number, or belongs to an option: `--NAME=VALUE`, or `--NAME` and `VALUE` behind it.
-pub(crate) fn parts_of(words: &[String]) -> Option<Parts<'_>>
-    ensures { IfSome result (λ parts. AreWithin parts.options) }
+/// What words give, where each is a name or a number, or belongs to an option: `--NAME=VALUE`, or `--NAME` and `VALUE` behind it.
+pub(crate) fn parsed_words(words: &[String]) -> Option<ParsedWords<'_>>
+    ensures { IfSome result (λ parsed. AreWithin parsed.options) }
 {
-    let mut parts = Parts {
+    let mut parsed = ParsedWords {
         names: [""; MOST],
         count: 0,
         options: Options::none(),
@@ -172,16 +172,16 @@ pub(crate) fn parts_of(words: &[String]) -> Option<Parts<'_>>
         let word = words[place].as_str();
         place += 1;
         match word.strip_prefix("--") {
-            None => parts = parts.with_name(word)?,
+            None => parsed = parsed.with_name(word)?,
             Some(option) => match option.split_once('=') {
-                Some((name, value)) => parts = parts.with_option(name, value)?,
+                Some((name, value)) => parsed = parsed.with_option(name, value)?,
                 None => {
                     let value = words.get(place)?;
                     place += 1;
-                    parts = parts.with_option(option, value.as_str())?;
+                    parsed = parsed.with_option(option, value.as_str())?;
                 }
             },
         }
     }
-    Some(parts)
+    Some(parsed)
 }

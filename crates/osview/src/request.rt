@@ -4,7 +4,7 @@ ghost use Rattle.std.specs.Prelude.{◌≡◌, IfSome};
 ghost use Rattle.osrun_core_jobs.specs.Jobs.{IsWithin, job_of as told_job};
 ghost use Rattle.osview.specs.Words.{AreWithin, IsLawful};
 
-use crate::options::{Parts, parts_of};
+use crate::options::{ParsedWords, parsed_words};
 use osrun_core_jobs::Job;
 use osview_answer::{GraphChoice, GraphJob, StreamJob};
 
@@ -31,17 +31,17 @@ pub(crate) fn request_of(words: &[String]) -> Option<Request<'_>>
 {
     let (first, rest) = words.split_first()?;
     match first.as_str() {
-        "report" => report_of(&parts_of(rest)?),
-        "stream" => stream_of(&parts_of(rest)?),
-        "steps" => steps_of(&parts_of(rest)?),
-        "graph" => graph_of(&parts_of(rest)?),
+        "report" => report_of(&parsed_words(rest)?),
+        "stream" => stream_of(&parsed_words(rest)?),
+        "steps" => steps_of(&parsed_words(rest)?),
+        "graph" => graph_of(&parsed_words(rest)?),
         word if rest.is_empty() => option_of(word),
         _ => None,
     }
 }
 
 /// The run of a program over an input, which stand first.
-fn job_of<'w>(words: &Parts<'w>) -> Job<'w>
+fn job_of<'w>(words: &ParsedWords<'w>) -> Job<'w>
     requires { AreWithin words.now.options }
     ensures { IsWithin (told_job result) }
 {
@@ -53,7 +53,7 @@ fn job_of<'w>(words: &Parts<'w>) -> Job<'w>
 }
 
 /// The report that words ask for: of a program and an input.
-fn report_of<'w>(words: &Parts<'w>) -> Option<Request<'w>>
+fn report_of<'w>(words: &ParsedWords<'w>) -> Option<Request<'w>>
     requires { AreWithin words.now.options }
     ensures { IfSome result IsLawful }
 {
@@ -64,7 +64,7 @@ fn report_of<'w>(words: &Parts<'w>) -> Option<Request<'w>>
 }
 
 /// The steps that words ask for: of a program and an input.
-fn steps_of<'w>(words: &Parts<'w>) -> Option<Request<'w>>
+fn steps_of<'w>(words: &ParsedWords<'w>) -> Option<Request<'w>>
     requires { AreWithin words.now.options }
     ensures { IfSome result IsLawful }
 {
@@ -75,7 +75,7 @@ fn steps_of<'w>(words: &Parts<'w>) -> Option<Request<'w>>
 }
 
 /// The stream that words ask for: of a program and an input, its name, from which position on, and how many positions at most.
-fn stream_of<'w>(words: &Parts<'w>) -> Option<Request<'w>>
+fn stream_of<'w>(words: &ParsedWords<'w>) -> Option<Request<'w>>
     requires { AreWithin words.now.options }
     ensures { IfSome result IsLawful }
 {
@@ -93,7 +93,7 @@ fn stream_of<'w>(words: &Parts<'w>) -> Option<Request<'w>>
 }
 
 /// The graph that words ask for: of a program and an input, of its tasks and streams, or of some activations.
-fn graph_of<'w>(words: &Parts<'w>) -> Option<Request<'w>>
+fn graph_of<'w>(words: &ParsedWords<'w>) -> Option<Request<'w>>
     requires { AreWithin words.now.options }
     ensures { IfSome result IsLawful }
 {
@@ -111,7 +111,7 @@ fn graph_of<'w>(words: &Parts<'w>) -> Option<Request<'w>>
 }
 
 /// The number that the word at a place is; another number where there is no such word.
-fn number_at(words: &Parts<'_>, place: usize, otherwise: u64) -> Option<u64> {
+fn number_at(words: &ParsedWords<'_>, place: usize, otherwise: u64) -> Option<u64> {
     if words.count <= place {
         return Some(otherwise);
     }

@@ -13,7 +13,7 @@ use Rattle.osrun_core_jobs.specs.declared.status.Status.{Status}
 use Rattle.osrun_core_run.specs.Refusal.{IsUsable}
 use Rattle.osview_answer.specs.Answers.{IsRefused}
 use Rattle.osview_answer.specs.Steps.{AreStepsOf}
-use Rattle.osview_answer.specs.declared.telling.Told.{Told}
+use Rattle.osview_answer.specs.declared.telling.RunAnswer.{RunAnswer}
 
 -- Both files were read, and these are the lines of steps of the run of the one over the other, and its status.
 pub record AreMeasured {F : Type 0} (of_files : FilesView F) (files_old files_new : F) (job : Job) (told : List ℕ) (own : ℕ) : Type 0 where
@@ -23,7 +23,7 @@ pub record AreMeasured {F : Type 0} (of_files : FilesView F) (files_old files_ne
   pub are_steps : AreStepsOf job.task_budget job.control_budget text input told own
 
 -- both files were read and the steps are told, or one of the files is the cause, or memory was wanted
-abbrev pub MakesSteps : {F : Type 0} → FilesView F → F → F → Job → Result Told Refusal → Type 0
+abbrev pub MakesSteps : {F : Type 0} → FilesView F → F → F → Job → Result RunAnswer Refusal → Type 0
 MakesSteps view old new job result = MatchResult result
     (λ told. AreMeasured view old new job told.text.items (code_of told.status)) (IsUnmadeOf view old new (files_of (Run job)))
 

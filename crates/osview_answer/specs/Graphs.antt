@@ -9,7 +9,7 @@ use Rattle.osrun_core_jobs.specs.Jobs.{Job, Run}
 use Rattle.osrun_core_jobs.specs.Status.{code_of}
 use Rattle.osrun_core_jobs.specs.declared.refusal.Refusal.{Refusal}
 use Rattle.osview_answer.specs.AnswersGraph.{IsGraphMade}
-use Rattle.osview_answer.specs.declared.telling.Told.{Told}
+use Rattle.osview_answer.specs.declared.telling.RunAnswer.{RunAnswer}
 use Rattle.osview_graph.specs.declared.drawn.GraphChoice.{GraphChoice}
 
 -- the lines of the sites of a code
@@ -17,6 +17,6 @@ abbrev pub site_lines : Parts → List ℕ
 site_lines code = map (λ (s : Site). s.line) code.sites
 
 -- both files were read and the graph is drawn, or one of the files is the cause, or memory was wanted
-abbrev pub MakesGraph : {F : Type 0} → FilesView F → F → F → Job → GraphChoice → Result Told Refusal → Type 0
+abbrev pub MakesGraph : {F : Type 0} → FilesView F → F → F → Job → GraphChoice → Result RunAnswer Refusal → Type 0
 MakesGraph of_files old new job view result = MatchResult result
     (λ told. IsGraphMade of_files old new job view told.text.items (code_of told.status)) (IsUnmadeOf of_files old new (files_of (Run job)))

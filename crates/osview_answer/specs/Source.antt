@@ -21,7 +21,7 @@ use Rattle.osrun_core_run.specs.Code.{IsCodeOf}
 use Rattle.osrun_core_run.specs.Refusal.{IsUnusable, IsUsable}
 use Rattle.osview_answer.specs.Answers.{IsMade}
 use Rattle.osview_answer.specs.declared.source.Source.{Source}
-use Rattle.osview_answer.specs.declared.telling.Told.{Told}
+use Rattle.osview_answer.specs.declared.telling.RunAnswer.{RunAnswer}
 
 -- the line of an activation's site
 abbrev pub site_line : Parts → Activation → ℕ
@@ -41,6 +41,6 @@ ReadsSource view old new name result = MatchResult result
     × IsFailed IsUnusable view old new (record { subject = subjects.Program; name = name }) refusal)
 
 -- both files were read and the run is told, or one of the files is the cause, or memory was wanted
-abbrev pub Makes : {F : Type 0} → FilesView F → F → F → Job → Result Told Refusal → Type 0
+abbrev pub Makes : {F : Type 0} → FilesView F → F → F → Job → Result RunAnswer Refusal → Type 0
 Makes view old new job result = MatchResult result
     (λ told. IsMade view old new job told.text.items (code_of told.status)) (IsUnmadeOf view old new (files_of (Run job)))

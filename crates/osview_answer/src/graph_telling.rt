@@ -12,7 +12,7 @@ use crate::graph_job::GraphJob;
 use crate::lines::site_lines;
 use crate::names::{stream_names, tokens_of};
 use crate::source::{Source, read_source};
-use crate::telling::Told;
+use crate::telling::RunAnswer;
 use control_run::run_control;
 use epoch_run_bodies::laws::agreeing_bodies_mean_one;
 use os_io::{Files, Memory};
@@ -31,7 +31,7 @@ fn tell_graph<R: Threads + Sync, G: Gate>(
     source: &Source,
     input: &[u8],
     gate: &G,
-) -> Result<Told, Memory>
+) -> Result<RunAnswer, Memory>
     requires within { AreTerms job.now.run.terms }
     requires few { length input.now ≤ input_limit }
     requires source { IsSource source.now }
@@ -60,7 +60,7 @@ fn tell_graph<R: Threads + Sync, G: Gate>(
         ends: run.ends.ends.as_slice(),
     };
     let text = graph_text(alloc, &drawn, job.view)?;
-    Ok(Told {
+    Ok(RunAnswer {
         text: text.into_bytes(),
         status: run.status(),
     })
@@ -73,7 +73,7 @@ pub(crate) fn make_graph<R: Threads + Sync, F: Files, G: Gate>(
     job: &GraphJob<'_>,
     files: &mut F,
     gate: &G,
-) -> Result<Told, Refusal>
+) -> Result<RunAnswer, Refusal>
     requires may { MayOpen (F.may files.old) (F.opens files.old) (files_of (RunRequest (job_of job.now.run))) }
     requires within { IsWithin (job_of job.now.run) }
     ensures { MakesGraph F.Files files.old files.new (job_of job.now.run) job.now.view result }

@@ -12,7 +12,7 @@ ghost use Rattle.osview_answer.specs.Steps.{AreSteps};
 use crate::lines::site_lines;
 use crate::main_run::run_main;
 use crate::source::{Source, read_source};
-use crate::telling::Told;
+use crate::telling::RunAnswer;
 use epoch_run_bodies::laws::agreeing_bodies_mean_one;
 use os_io::{Files, Memory};
 use osrun_core_jobs::{Job, Refusal, Subject, Terms, load};
@@ -31,7 +31,7 @@ pub(crate) fn tell_steps<R: Threads + Sync, G: Gate>(
     source: &Source,
     input: &[u8],
     gate: &G,
-) -> Result<Told, Memory>
+) -> Result<RunAnswer, Memory>
     requires within { AreTerms terms }
     requires few { length input.now ≤ input_limit }
     requires source { IsSource source.now }
@@ -63,7 +63,7 @@ pub(crate) fn tell_steps<R: Threads + Sync, G: Gate>(
         main.taken,
         measured.longest,
     )?;
-    Ok(Told {
+    Ok(RunAnswer {
         text: text.into_bytes(),
         status: run.status(),
     })
@@ -76,7 +76,7 @@ pub(crate) fn make_steps<R: Threads + Sync, F: Files, G: Gate>(
     job: &Job<'_>,
     files: &mut F,
     gate: &G,
-) -> Result<Told, Refusal>
+) -> Result<RunAnswer, Refusal>
     requires may { MayOpen (F.may files.old) (F.opens files.old) (files_of (RunRequest (job_of job.now))) }
     requires within { IsWithin (job_of job.now) }
     ensures { MakesSteps F.Files files.old files.new (job_of job.now) result }

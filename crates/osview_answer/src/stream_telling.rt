@@ -15,7 +15,7 @@ use crate::names::{stream_names, tokens_of};
 use crate::outcomes::task_outcomes;
 use crate::source::{Source, read_source};
 use crate::stream_job::StreamJob;
-use crate::telling::Told;
+use crate::telling::RunAnswer;
 use control_run::run_control;
 use epoch_run_bodies::laws::agreeing_bodies_mean_one;
 use os_io::{Files, Memory};
@@ -31,7 +31,7 @@ use task_workers::Gate;
 #[derive(Drop)]
 pub(crate) enum StreamTold {
     /// The lines of its elements, and the status of the run.
-    Elements(Told),
+    Elements(RunAnswer),
     /// The line that tells that there is none with this name.
     Unnamed(Vec<u8>),
 }
@@ -46,7 +46,7 @@ fn tell_elements<R: Threads + Sync, G: Gate>(
     input: &[u8],
     stream: u32,
     gate: &G,
-) -> Result<Told, Memory>
+) -> Result<RunAnswer, Memory>
     requires within { AreTerms job.now.run.terms }
     requires few { length input.now ≤ input_limit }
     requires source { IsSource source.now }
@@ -79,7 +79,7 @@ fn tell_elements<R: Threads + Sync, G: Gate>(
         lines: &lines,
     };
     let text = elements_text(alloc, &shown, stream, job.first, job.count)?;
-    Ok(Told {
+    Ok(RunAnswer {
         text: text.into_bytes(),
         status: run.status(),
     })

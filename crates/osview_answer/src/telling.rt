@@ -22,7 +22,7 @@ use task_workers::Gate;
 
 /// What is told of a run, and the status of the run.
 #[derive(Drop)]
-pub(crate) struct Told {
+pub(crate) struct RunAnswer {
     pub(crate) text: Vec<u8>,
     pub(crate) status: Status,
 }
@@ -36,7 +36,7 @@ pub(crate) fn tell_run<R: Threads + Sync, G: Gate>(
     source: &Source,
     input: &[u8],
     gate: &G,
-) -> Result<Told, Memory>
+) -> Result<RunAnswer, Memory>
     requires within { AreTerms terms }
     requires few { length input.now ≤ input_limit }
     requires source { IsSource source.now }
@@ -63,7 +63,7 @@ pub(crate) fn tell_run<R: Threads + Sync, G: Gate>(
         &run.ends,
         run.control,
     )?;
-    Ok(Told {
+    Ok(RunAnswer {
         text,
         status: run.status(),
     })
@@ -76,7 +76,7 @@ pub(crate) fn make_report<R: Threads + Sync, F: Files, G: Gate>(
     job: &Job<'_>,
     files: &mut F,
     gate: &G,
-) -> Result<Told, Refusal>
+) -> Result<RunAnswer, Refusal>
     requires may { MayOpen (F.may files.old) (F.opens files.old) (files_of (RunRequest (job_of job.now))) }
     requires within { IsWithin (job_of job.now) }
     ensures { Makes F.Files files.old files.new (job_of job.now) result }

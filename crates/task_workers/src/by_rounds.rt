@@ -127,7 +127,7 @@ fn sink_cells<'b>(plan: &Plan, board: &'b Board) -> &'b [Option<Elem>]
     &board.cells[first..first + plan.sink.inputs as usize]
 }
 
-/// Puts items over as many of a list.
+/// Replaces the items of a list by others, as many as it has.
 fn put<T: Copy>(list: &mut List<T>, items: &[T])
     requires { length list.old ≡ length items.now }
     ensures { list.new ≡ items.now }

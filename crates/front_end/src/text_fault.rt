@@ -1,6 +1,6 @@
 ghost use Rattle.std.specs.Prelude.{◌≡◌, ◌≢◌, IfNone, IfSome};
-ghost use Rattle.oscheck_places.specs.Faults.{fault_code};
-ghost use Rattle.oscheck_places.specs.declared.text_fault.TextFault.{TextFault as AnyFault};
+ghost use Rattle.front_end.specs.Codes.{fault_code};
+ghost use Rattle.front_end.specs.declared.text_fault.TextFault.{TextFault as AnyFault};
 
 /// Why the bytes of a text can't be cut into tokens.
 #[derive(Clone, Copy, Debug, PartialEq, Eq)]
