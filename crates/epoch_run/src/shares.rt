@@ -24,7 +24,7 @@ use os_io::Memory;
 use std::alloc::Global;
 use std::thread::{Threads, join_mut};
 
-/// Runs the shares up to a number, each by a thread of its own, but for the first one, which this one runs: it has the control program create all
+/// Runs the shares up to a number, each by a thread of its own, for which this one waits. The first share's has the control program create all
 /// activations, and lays them out. What ran is put behind those that had run before. After `Memory` the run is to be given up.
 pub(crate) fn run_shares<R: Threads + Sync>(
     rt: &R,
@@ -44,7 +44,7 @@ pub(crate) fn run_shares<R: Threads + Sync>(
     ensures no_fewer { OnOk result (length order.old.ends ≤ length order.new.ends) }
 {
     if number == 0 {
-        return lead(run, order, alloc, code, input, budgets, borders);
+        return lead_apart(rt, run, order, alloc, code, input, budgets, borders);
     }
     let mut share: Option<Apart> = None;
     let mut own = || -> Result<(), Memory>
@@ -120,6 +120,34 @@ fn run_numbered(
         borders.begin(number),
         borders.end(number),
     )
+}
+
+/// Has a thread of its own lead, and waits for it. A system may begin a thread on the processor of the one that started it: did this one go on, the
+/// other would wait there until one of the two is moved, which takes milliseconds.
+fn lead_apart<R: Threads + Sync>(
+    rt: &R,
+    run: &mut Standing<'_>,
+    order: &mut InOrder,
+    alloc: Global,
+    code: &Code,
+    input: &[u8],
+    budgets: Budgets,
+    borders: Borders,
+) -> Result<(), Memory>
+    requires input { length input.now ≤ input_limit }
+    requires budgets { AreBudgets budgets }
+    requires ran { HaveRunInOrder code.now input.now budgets run.old order.old }
+    ensures shared { OnOk result (AreSharedOut code.now input.now budgets run.new.control run.new.layout order.new) }
+    ensures no_fewer { OnOk result (length order.old.ends ≤ length order.new.ends) }
+{
+    let mut first = || -> Result<(), Memory>
+        requires { (length input.now ≤ input_limit) × AreBudgets budgets × HaveRunInOrder code.now input.now budgets run.now order.now }
+        ensures { OnOk result (AreSharedOut code.entry.now input.entry.now budgets run.exit.now.control run.exit.now.layout order.exit.now
+            × (length order.entry.now.ends ≤ length order.exit.now.ends)) }
+    { lead(run, order, alloc, code, input, budgets, borders) };
+    let mut wait = || {};
+    let (led, _) = join_mut(rt, &mut first, &mut wait);
+    led
 }
 
 /// Has the control program create all activations, lays them out, and runs the first share.

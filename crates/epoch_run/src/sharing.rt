@@ -48,6 +48,7 @@ pub(crate) fn share_out<'c, R: Threads + Sync>(
     ensures told { IfOk result (λ all. all ≡ true → given_by run.new.control ≡ (whole run.new.control).activations) }
     ensures stays { IfOk result (λ all. all ≡ false → HaveRunInOrder code.now input.now budgets run.new order.new) }
     ensures no_fewer { IfOk result (λ all. all ≡ false → length (given_by run.old.control) ≤ length (given_by run.new.control)) }
+    ensures none_lost { OnOk result (length order.old.ends ≤ length order.new.ends) }
 {
     let first = order.ends.len() as u32;
     if !is_worth_a_try(run, first, workers) {
