@@ -1,11 +1,7 @@
--- How long headings are.
-use Rattle.std.proofs.Common.{◌≡◌, ◌∙◌, ℕ, ◌+◌, ◌<◌, ◌≤◌, ◌^◌, List, ◌++◌, ap, arith, length}
+-- How long the numbers of headings are.
+use Rattle.std.proofs.Common.{ℕ, ◌<◌, ◌≤◌, ◌^◌, arith, length}
 use Rattle.std.specs.Fmt.{decimal}
 use Rattle.std.proofs.lemmas.Fmt.{length-decimal-le}
-use Rattle.std.proofs.lemmas.List.{length-append}
-
-pub added : (new old text : List ℕ) → new ≡ old ++ text → length new ≡ length old + length text
-added new old text is = ap length is ∙ length-append old text
 
 -- a number of 32 bits has ten digits at most
 pub ten : (n : ℕ) → n < 2 ^ 32 → length (decimal n) ≤ 10
