@@ -1,11 +1,11 @@
 use Rattle.std.proofs.Common.{◌∙◌, ◌++◌, ap, append_assoc, codes, sym}
 use Rattle.std.specs.Fmt.{decimal}
 use Rattle.osview_sentences.proofs.Joined.{behind}
-use Rattle.osview_sentences.proofs.text.Text.who.Goals as goal
+use Rattle.osview_sentences.proofs.wording.add_who.Goals as goal
 
 pub returns : goal.returns
 returns c =
-    let old = c.args.self.now in
+    let old = c.args.told.now in
     let s = c.args.sentence in
     let who = codes "activation " ++ decimal s.activation in
     let task = codes ", of the task in line " in
