@@ -20,7 +20,8 @@ use crate::stream_name::StreamName;
 use crate::tally::Tally;
 use crate::wording::{add_sentence, trap_text};
 use c_int::ControlLimit;
-use flow_core_laws::{ControlEnd, Elem, Ends, TaskEnd};
+use collector::written_length;
+use flow_core_laws::{ControlEnd, Ends, TaskEnd};
 use os_io::Memory;
 use osview_text::Text;
 use std::alloc::Global;
@@ -64,18 +65,6 @@ fn count_done(ends: &[Option<TaskEnd>]) -> u64
         }
     }
     count
-}
-
-/// How many values stand before the first element that isn't there or is poison.
-fn written_length(elements: &[Option<Elem>]) -> usize
-    ensures { result ≡ length (written elements.now) }
-{
-    for (count, element) in elements.iter().enumerate() {
-        let Some(Elem::Value(_)) = element else {
-            return count;
-        };
-    }
-    elements.len()
 }
 
 /// Adds that some more sentences are like the one that was told.
