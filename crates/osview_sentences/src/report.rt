@@ -5,7 +5,7 @@ ghost use Rattle.collector.specs.Written.{written};
 ghost use Rattle.collector.specs.Line.{line};
 ghost use Rattle.flow_core_laws.specs.declared.activation.Activation.{Activation};
 ghost use Rattle.flow_core_laws.specs.Place.{written_count};
-ghost use Rattle.osview_sentences.specs.Report.{activation_word, control_text, created_text, heading, likewise_text, limit_text};
+ghost use Rattle.osview_sentences.specs.Report.{control_text, created_text, heading, likewise_text, limit_text};
 ghost use Rattle.osview_sentences.specs.Report.{more_text, report, sentence_lines, share_text};
 ghost use Rattle.osview_sentences.specs.FirstReaders.{AreReaders};
 ghost use Rattle.osview_sentences.specs.Readers.{also_text};
@@ -23,7 +23,7 @@ use c_int::ControlLimit;
 use collector::written_length;
 use flow_core_laws::{ControlEnd, Ends, TaskEnd};
 use os_io::Memory;
-use osview_text::Text;
+use osview_text::{Text, activation_word};
 use std::alloc::Global;
 use stream_match_layouts::{Layout, Span};
 
@@ -236,17 +236,6 @@ fn add_heading(told: &mut Text, control: ControlEnd, count: Counts) -> Result<()
         b" bytes of the output are there",
     )?;
     Ok(())
-}
-
-/// The word for so many activations.
-fn activation_word(count: u64) -> &'static [u8]
-    ensures { result.now ≡ activation_word count }
-{
-    if count == 1 {
-        b" activation"
-    } else {
-        b" activations"
-    }
 }
 
 /// What stopped `main` at a limit.

@@ -1,6 +1,6 @@
 use Rattle.std.proofs.Common.{◌++◌, codes}
 use Rattle.std.specs.Fmt.{decimal}
-use Rattle.osview_sentences.specs.Report.{activation_word}
+use Rattle.osview_text.specs.Words.{activation_word}
 use Rattle.osview_sentences.proofs.Joined.{behind_as}
 use Rattle.osview_sentences.proofs.report.add_created.Goals as goal
 
