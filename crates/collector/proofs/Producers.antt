@@ -1,6 +1,6 @@
 -- The producer of a position, and how far its element and those behind it are there.
 use Rattle.std.proofs.Common.{◌≡◌, ℕ, ◌+◌, ◌<◌, ◌≤◌, ◌&&◌, true, false, cond, not, List, Option, Some, None, length, refl, sym, ap, ◌∙◌, subst, arith}
-use Rattle.std.specs.Prelude.{slice_get, option_and_then, nat_lt, nat_le, ◌==◌}
+use Rattle.std.specs.Prelude.{IfSome, slice_get, option_and_then, nat_lt, nat_le, ◌==◌}
 use Rattle.std.specs.Option.{option_map, option_map_or}
 use Rattle.std.proofs.lemmas.Bool.{le-leb, lt-ltb}
 use Rattle.std.proofs.lemmas.Bool.Decides.{nat_tests}
@@ -49,6 +49,14 @@ produces_of activations stream position span h = by (producer activations stream
         let (i, at, passes) = find_passes (is_written_by stream position) (windows activations) w is in
         let writes = written stream position w passes in
         record { window = w; number = i; is = same_Some span (span_of w) h; produces = is; stands = at; on_stream = writes.on_stream; from = writes.from; to = writes.to }
+
+-- the span of a producer covers the position
+pub covers_if : (activations : List Activation) (stream position : ℕ) (found : Option Span) → found ≡ option_map span_of (producer activations stream position)
+    → IfSome found (λ span. position < span.first + span.count)
+covers_if activations stream position None is = tt
+covers_if activations stream position (Some span) is =
+    let p = produces_of activations stream position span is in
+    subst (λ (s : Span). position < s.first + s.count) (sym p.is) p.to
 
 -- its end fits
 pub producer_small : (layout : Layout) (is : IsLayout layout) (stream position : ℕ) (span : Span) → Some span ≡ option_map span_of (producer is.activations stream position) → span.first + span.count ≤ 4194304

@@ -1,4 +1,4 @@
-ghost use Rattle.std.specs.Prelude.{◌≡◌, ◌<◌, ◌≤◌, ◌-◌, false, All, IfSome, List, find, length};
+ghost use Rattle.std.specs.Prelude.{◌≡◌, ◌<◌, ◌≤◌, ◌+◌, ◌-◌, false, All, IfSome, List, find, length};
 ghost use Rattle.std.specs.List.{flat_map, range_with_len};
 ghost use Rattle.std.specs.Option.{option_map};
 ghost use Rattle.flow_core_laws.specs.declared.activation.Activation.{Activation};
@@ -128,11 +128,12 @@ fn producing(layout: &Layout, gap: Gap) -> Option<u32>
     Some(u32::from(span.frame))
 }
 
-/// The write span that covers a position.
-fn producer(layout: &Layout, stream: u32, position: u64) -> Option<Span>
+/// The write span that covers a position of a stream.
+pub fn producer(layout: &Layout, stream: u32, position: u64) -> Option<Span>
     requires layout { IsLayout layout.now }
     requires exists { stream < length layout.now.writers }
-    ensures { (activations : List Activation) → IsLayoutOf layout.now activations
+    ensures covers { IfSome result (λ span. position < span.first + span.count) }
+    ensures writer { (activations : List Activation) → IsLayoutOf layout.now activations
         → result ≡ option_map span_of (producer activations stream position) }
 {
     let number = layout.producer(stream, position)?;

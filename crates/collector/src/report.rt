@@ -91,7 +91,7 @@ fn activation_line<S: Sink>(
 }
 
 /// How many values stand before the first element that isn't there or is poison.
-fn written_length(elements: &[Option<Elem>]) -> usize
+pub fn written_length(elements: &[Option<Elem>]) -> usize
     ensures { result ≡ length (written elements.now) }
 {
     for (count, element) in elements.iter().enumerate() {

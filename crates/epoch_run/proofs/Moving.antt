@@ -3,7 +3,7 @@ use Rattle.std.proofs.Common.{◌≡◌, ℕ, ◌+◌, ◌<◌, ◌≤◌, List,
 use Rattle.std.proofs.lemmas.List.{get_or-set_other, length-set, take_more}
 use Rattle.std.proofs.lemmas.Option.{get_or_from_slice_get}
 use Rattle.flow_core_laws.specs.declared.activation.Activation.{Activation}
-use Rattle.epoch_run.specs.Adding.{no_activation}
+use Rattle.control_run.specs.Spawning.{no_activation}
 
 -- the activations of the numbers from one on are still there
 pub record AreLeft (number : ℕ) (all left : List Activation) : Type 0 where

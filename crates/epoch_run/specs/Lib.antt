@@ -7,5 +7,4 @@ pub mod Held
 pub mod Standing
 pub mod InOrder
 pub mod Sharing
-pub mod Adding
 pub mod NextSpans

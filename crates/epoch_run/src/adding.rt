@@ -1,7 +1,7 @@
 ghost use Rattle.std.specs.Prelude.{◌≡◌, [], ◌<◌, ◌≤◌, ◌++◌, List, OnOk, Some, length, slice_get, slice_set};
 ghost use Rattle.flow_core_laws.specs.declared.activation.Activation.{Activation};
 ghost use Rattle.stream_match_layouts.specs.Layout.{IsLayoutOf, TakesMore};
-ghost use Rattle.epoch_run.specs.Adding.{no_activation};
+ghost use Rattle.control_run.specs.Spawning.{no_activation};
 ghost use Rattle.control_run.specs.Stretches.{RunSoFar};
 ghost use Rattle.epoch_run.specs.NextSpans.{ComeBehind};
 ghost use Rattle.epoch_run.specs.Standing.{HasAdvanced, HasCreatedNext};

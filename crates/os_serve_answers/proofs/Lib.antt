@@ -1,4 +1,5 @@
 pub mod Ends
+pub mod Headings
 pub mod JobLines
 pub mod Next
 pub mod Says

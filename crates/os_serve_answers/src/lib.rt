@@ -6,6 +6,7 @@
 #![tactic(auto)]
 
 mod ending;
+mod heading;
 mod job_answer;
 mod serve_error;
 mod writing;

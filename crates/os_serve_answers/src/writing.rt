@@ -2,9 +2,9 @@ ghost use Rattle.osrun_core_jobs.specs.Telling.{IsWritten};
 ghost use Rattle.os_serve_answers.specs.Replies.{reply_of};
 ghost use Rattle.os_serve_jobs.specs.Answers.{answer as answer_text};
 
+use crate::heading::heading_line;
 use crate::job_answer::JobAnswer;
 use os_io::{Sink, WriteError, write_whole};
-use os_serve_jobs::Heading;
 
 /// Writes bytes.
 fn write<O: Sink>(out: &mut O, bytes: &[u8]) -> Result<(), WriteError>
@@ -20,7 +20,7 @@ pub fn write_answer<O: Sink>(out: &mut O, number: u32, answer: &JobAnswer) -> Re
 {
     let output = answer.output();
     let told = answer.told();
-    let heading = Heading::new(
+    let heading = heading_line(
         number,
         answer.status(),
         output.len() as u32,

@@ -1,4 +1,3 @@
 pub mod FirstJobs
-pub mod Headings
 pub mod LineWords
 pub mod ReadOn

@@ -4,8 +4,8 @@
 //! `load` reads one file, as far as its limit, or says why it can't be used. `deliver` writes bytes and then lines, and answers
 //! the status that it was given where all was taken. `refuse` tells a refusal in a line and answers its status, and `tell` writes
 //! any line, as `USAGE`; none of these three takes memory. Files and sinks are given by their traits, and the contracts say what
-//! each counted and took. Nothing is said here of words, nor of what a file's bytes mean: what makes a file usable is handed to
-//! the definitions.
+//! each counted and took. A `Line` is put together in room of its own. Nothing is said here of words, nor of what a file's bytes
+//! mean: what makes a file usable is handed to the definitions.
 #![tactic(auto)]
 
 mod delivering;
@@ -19,6 +19,7 @@ mod telling;
 
 pub use delivering::{Lines, NoLines, deliver};
 pub use job::{CompileJob, ExecJob, ExplainJob, GenJob, Job, ReplayJob, Request, Terms, TraceJob};
+pub use line::Line;
 pub use loading::load;
 pub use refusal::Refusal;
 pub use status::Status;

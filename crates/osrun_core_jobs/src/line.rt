@@ -6,9 +6,9 @@ use std::marker::Model;
 /// How many bytes a line may have.
 const ROOM: usize = 64;
 
-/// A line that is put together in room of its own. Contracts see its bytes.
+/// A line that is put together in room of its own, and takes no memory. Contracts see its bytes. What there is no room for is left out.
 #[derive(Drop)]
-pub(crate) struct Line {
+pub struct Line {
     bytes: [u8; ROOM],
     /// How many of them are the line's.
     kept: usize,
@@ -26,7 +26,7 @@ impl Model for Line {
 
 impl Line {
     /// An empty line.
-    pub(crate) fn new() -> Line
+    pub fn new() -> Line
         ensures { result ≡ [] }
     {
         Line {
@@ -37,17 +37,17 @@ impl Line {
 
     /// Adds a byte.
     fn push(&mut self, byte: u8)
-        requires { length self.old < 64 }
-        ensures { self.new ≡ self.old ++ byte ∷ [] }
+        ensures { length self.old < 64 → self.new ≡ self.old ++ byte ∷ [] }
     {
-        self.bytes[self.kept] = byte;
-        self.kept += 1;
+        if self.kept < ROOM {
+            self.bytes[self.kept] = byte;
+            self.kept += 1;
+        }
     }
 
     /// Adds a text.
-    pub(crate) fn text(&mut self, text: &[u8])
-        requires { length self.old + length text.now ≤ 64 }
-        ensures { self.new ≡ self.old ++ text.now }
+    pub fn text(&mut self, text: &[u8])
+        ensures { length self.old + length text.now ≤ 64 → self.new ≡ self.old ++ text.now }
     {
         for byte in text {
             self.push(*byte);
@@ -55,9 +55,8 @@ impl Line {
     }
 
     /// Adds a number in decimal.
-    pub(crate) fn number(&mut self, number: u64)
-        requires { length self.old + length (decimal number) ≤ 64 }
-        ensures { self.new ≡ self.old ++ decimal number }
+    pub fn number(&mut self, number: u64)
+        ensures { length self.old + length (decimal number) ≤ 64 → self.new ≡ self.old ++ decimal number }
     {
         if number < 10 {
             self.push(b'0' + number as u8);
@@ -68,7 +67,7 @@ impl Line {
     }
 
     /// The bytes of the line.
-    pub(crate) fn as_bytes(&self) -> &[u8]
+    pub fn as_bytes(&self) -> &[u8]
         ensures { result.now ≡ self.now }
     {
         &self.bytes[..self.kept]

@@ -3,5 +3,4 @@ pub mod Spans
 pub mod Reading
 pub mod Joined
 pub mod Sizes
-pub mod Covering
 pub mod Linked

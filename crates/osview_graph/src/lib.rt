@@ -19,7 +19,6 @@ mod tables;
 mod tally;
 mod tasks;
 mod uses;
-mod writer;
 
 pub use drawn::{Drawn, GraphChoice};
 pub use graph::graph_text;

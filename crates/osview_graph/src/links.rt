@@ -9,7 +9,7 @@ ghost use Rattle.stream_match_layouts.specs.Layout.{span_of};
 use crate::drawn::Drawn;
 use crate::ending::end_word;
 use crate::labels::add_name;
-use crate::writer::writer_at;
+use collector::producer;
 use os_io::Memory;
 use osview_text::Text;
 use stream_match_layouts::Span;
@@ -130,7 +130,7 @@ fn add_link_at(
     ensures { (r : Window) → reader ≡ span_of r
         → OnOk result (told.new ≡ told.old ++ link_at (run_of drawn.now) (shown_of shown) r position) }
 {
-    let Some(writer) = writer_at(drawn.layout, reader.stream, position) else {
+    let Some(writer) = producer(drawn.layout, reader.stream, position) else {
         return Ok(());
     };
     if position == reader.first.max(writer.first) {

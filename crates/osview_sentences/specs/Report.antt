@@ -16,6 +16,7 @@ use Rattle.osview_sentences.specs.Readers.{also_text, spans_of}
 use Rattle.osview_sentences.specs.Sentences.{is_alike, sentence_text, trap_text}
 use Rattle.osview_sentences.specs.declared.fact.Sentence.{Sentence}
 use Rattle.osview_sentences.specs.declared.stream_name.StreamName.{StreamName}
+use Rattle.osview_text.specs.Words.{activation_word}
 use Rattle.stream_match_layouts.specs.declared.span.Span.{Span}
 
 -- how many more sentences are like the one that is told
@@ -37,10 +38,6 @@ line_at text names spans lines all place = option_map_or (told_at text names spa
 -- The lines of sentences: one for those that are alike, where the first of them stands.
 abbrev pub sentence_lines : List ℕ → List StreamName → List Span → (lines : List ℕ) → List Sentence → List ℕ
 sentence_lines text names spans lines all = flat_map (line_at text names spans lines all) (range_with_len 0 (length all))
-
--- one activation, or several
-abbrev pub activation_word : ℕ → List ℕ
-activation_word count = if count == 1 then codes " activation" else codes " activations"
 
 -- how many activations `main` created
 abbrev pub created_text : ℕ → List ℕ

@@ -16,7 +16,6 @@ mod readers;
 mod report;
 mod stream_name;
 mod tally;
-mod text;
 mod wording;
 
 pub use fact::{Fact, Sentence, Supply};

@@ -5,8 +5,8 @@ ghost use Rattle.osview_sentences.specs.Readers.{reads_text, shared_text};
 
 use crate::fact::{Fact, Supply};
 use crate::finding::line_of;
-use crate::text::Text;
 use os_io::Memory;
+use osview_text::Text;
 use std::alloc::Global;
 use std::collections::BTreeMap;
 use stream_match_layouts::Span;
@@ -124,49 +124,52 @@ impl Readers {
     }
 }
 
-impl Text {
-    /// Adds that another task reads the stream.
-    fn reads(&mut self, at: u32) -> Result<(), Memory>
-        ensures { OnOk result (self.new ≡ self.old ++ reads_text at) }
-    {
-        self.field(b"; the task in line ", at as u64)?;
-        self.add(b" reads this stream too")?;
-        Ok(())
-    }
+/// Adds that another task reads the stream.
+fn add_reads(told: &mut Text, at: u32) -> Result<(), Memory>
+    ensures { OnOk result (told.new ≡ told.old ++ reads_text at) }
+{
+    told.field(b"; the task in line ", at as u64)?;
+    told.add(b" reads this stream too")?;
+    Ok(())
+}
 
-    /// Adds that another task reads the stream, if one does.
-    fn reads_if(&mut self, at: Option<u32>) -> Result<(), Memory>
-        ensures { OnOk result (self.new ≡ self.old ++ option_map_or reads_text at []) }
-    {
-        match at {
-            Some(at) => self.reads(at),
-            None => Ok(()),
-        }
+/// Adds that another task reads the stream, if one does.
+fn add_reads_if(told: &mut Text, at: Option<u32>) -> Result<(), Memory>
+    ensures { OnOk result (told.new ≡ told.old ++ option_map_or reads_text at []) }
+{
+    match at {
+        Some(at) => add_reads(told, at),
+        None => Ok(()),
     }
+}
 
-    /// Adds whether another task reads the stream on which one waits for what nobody writes.
-    fn shared(
-        &mut self,
-        readers: &Readers,
-        stream: u32,
-        at: u32,
-        supply: Supply,
-    ) -> Result<(), Memory>
-        ensures { OnOk result (self.new ≡ self.old ++ shared_text supply (found readers.now stream at)) }
-    {
-        match supply {
-            Supply::Nobody => self.reads_if(readers.other(stream, at)),
-            Supply::Ended | Supply::Itself | Supply::Waiting { .. } => Ok(()),
-        }
+/// Adds whether another task reads the stream on which one waits for what nobody writes.
+fn add_shared(
+    told: &mut Text,
+    readers: &Readers,
+    stream: u32,
+    at: u32,
+    supply: Supply,
+) -> Result<(), Memory>
+    ensures { OnOk result (told.new ≡ told.old ++ shared_text supply (found readers.now stream at)) }
+{
+    match supply {
+        Supply::Nobody => add_reads_if(told, readers.other(stream, at)),
+        Supply::Ended | Supply::Itself | Supply::Waiting { .. } => Ok(()),
     }
+}
 
-    /// Adds what else is to be said of what became of an activation whose task stands in this line.
-    pub(crate) fn also(&mut self, readers: &Readers, at: u32, fact: Fact) -> Result<(), Memory>
-        ensures { OnOk result (self.new ≡ self.old ++ also_found readers.now at fact) }
-    {
-        match fact {
-            Fact::Trapped { .. } | Fact::OverBudget | Fact::Poisoned { .. } => Ok(()),
-            Fact::Waits { stream, supply, .. } => self.shared(readers, stream, at, supply),
-        }
+/// Adds what else is to be said of what became of an activation whose task stands in this line.
+pub(crate) fn add_also(
+    told: &mut Text,
+    readers: &Readers,
+    at: u32,
+    fact: Fact,
+) -> Result<(), Memory>
+    ensures { OnOk result (told.new ≡ told.old ++ also_found readers.now at fact) }
+{
+    match fact {
+        Fact::Trapped { .. } | Fact::OverBudget | Fact::Poisoned { .. } => Ok(()),
+        Fact::Waits { stream, supply, .. } => add_shared(told, readers, stream, at, supply),
     }
 }

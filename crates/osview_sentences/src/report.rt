@@ -5,7 +5,7 @@ ghost use Rattle.collector.specs.Written.{written};
 ghost use Rattle.collector.specs.Line.{line};
 ghost use Rattle.flow_core_laws.specs.declared.activation.Activation.{Activation};
 ghost use Rattle.flow_core_laws.specs.Place.{written_count};
-ghost use Rattle.osview_sentences.specs.Report.{activation_word, control_text, created_text, heading, likewise_text, limit_text};
+ghost use Rattle.osview_sentences.specs.Report.{control_text, created_text, heading, likewise_text, limit_text};
 ghost use Rattle.osview_sentences.specs.Report.{more_text, report, sentence_lines, share_text};
 ghost use Rattle.osview_sentences.specs.FirstReaders.{AreReaders};
 ghost use Rattle.osview_sentences.specs.Readers.{also_text};
@@ -15,14 +15,15 @@ ghost use Rattle.stream_match_layouts.specs.Layout.{IsLayout, IsLayoutOf};
 
 use crate::fact::{Fact, Sentence};
 use crate::finding::sentences;
-use crate::readers::Readers;
+use crate::readers::{Readers, add_also};
 use crate::stream_name::StreamName;
 use crate::tally::Tally;
-use crate::text::Text;
-use crate::wording::trap_text;
+use crate::wording::{add_sentence, trap_text};
 use c_int::ControlLimit;
-use flow_core_laws::{ControlEnd, Elem, Ends, TaskEnd};
+use collector::written_length;
+use flow_core_laws::{ControlEnd, Ends, TaskEnd};
 use os_io::Memory;
+use osview_text::{Text, activation_word};
 use std::alloc::Global;
 use stream_match_layouts::{Layout, Span};
 
@@ -66,184 +67,175 @@ fn count_done(ends: &[Option<TaskEnd>]) -> u64
     count
 }
 
-/// How many values stand before the first element that isn't there or is poison.
-fn written_length(elements: &[Option<Elem>]) -> usize
-    ensures { result ≡ length (written elements.now) }
+/// Adds that some more sentences are like the one that was told.
+fn add_likewise(told: &mut Text, more: u64) -> Result<(), Memory>
+    ensures { OnOk result (told.new ≡ told.old ++ likewise_text more) }
 {
-    for (count, element) in elements.iter().enumerate() {
-        let Some(Elem::Value(_)) = element else {
-            return count;
-        };
-    }
-    elements.len()
+    told.field(b"; likewise ", more)?;
+    told.add(b" more of this task")?;
+    Ok(())
 }
 
-impl Text {
-    /// Adds that some more sentences are like the one that was told.
-    fn likewise(&mut self, more: u64) -> Result<(), Memory>
-        ensures { OnOk result (self.new ≡ self.old ++ likewise_text more) }
-    {
-        self.field(b"; likewise ", more)?;
-        self.add(b" more of this task")?;
-        Ok(())
-    }
-
-    /// Adds how many more sentences are like the one that was told, if there are any.
-    fn more(&mut self, more: u64) -> Result<(), Memory>
-        ensures { OnOk result (self.new ≡ self.old ++ more_text more) }
-    {
-        if more == 0 {
-            Ok(())
-        } else {
-            self.likewise(more)
-        }
-    }
-
-    /// Adds how many activations there were when `main` ended.
-    fn created(&mut self, count: u64) -> Result<(), Memory>
-        ensures { OnOk result (self.new ≡ self.old ++ created_text count) }
-    {
-        self.field(b" after ", count)?;
-        self.add(activation_word(count))?;
-        Ok(())
-    }
-
-    /// Adds that `main` went no further.
-    fn stopped(&mut self, what: &[u8], count: u64) -> Result<(), Memory>
-        ensures { OnOk result (self.new ≡ self.old ++ (what.now ++ created_text count)) }
-    {
-        self.add(what)?;
-        self.created(count)
-    }
-
-    /// Adds that `main` was stopped at a limit.
-    fn limit(&mut self, limit: u8, count: u64) -> Result<(), Memory>
-        ensures { OnOk result (self.new ≡ self.old ++ control_text (ControlEnd.Limit limit) count) }
-    {
-        self.add(b"main was stopped")?;
-        self.created(count)?;
-        self.add(limit_text(limit))?;
-        Ok(())
-    }
-
-    /// Adds that `main` trapped.
-    fn trapped(&mut self, code: u8, at: u32, count: u64) -> Result<(), Memory>
-        ensures { OnOk result (self.new ≡ self.old ++ control_text (ControlEnd.Trapped code at) count) }
-    {
-        self.field(b"main trapped in line ", at as u64)?;
-        self.created(count)?;
-        self.add(b": ")?;
-        self.add(trap_text(code))?;
-        Ok(())
-    }
-
-    /// Adds how `main` ended.
-    fn control(&mut self, control: ControlEnd, count: u64) -> Result<(), Memory>
-        ensures { OnOk result (self.new ≡ self.old ++ control_text control count) }
-    {
-        match control {
-            ControlEnd::Done => self.stopped(b"main ended", count),
-            ControlEnd::Trapped { code, line } => self.trapped(code, line, count),
-            ControlEnd::OverBudget => self.stopped(b"main used up its turns", count),
-            ControlEnd::Limit(limit) => self.limit(limit, count),
-        }
-    }
-
-    /// Adds the line that tells how `main` ended.
-    fn control_line(&mut self, control: ControlEnd, count: u64) -> Result<(), Memory>
-        ensures { OnOk result (self.new ≡ self.old ++ line (control_text control count)) }
-    {
-        self.control(control, count)?;
-        self.add(b"\n")
-    }
-
-    /// Adds a line that tells how many there are of how many.
-    fn share_line(&mut self, some: u64, all: u64, what: &[u8]) -> Result<(), Memory>
-        ensures { OnOk result (self.new ≡ self.old ++ line (share_text some all what.now)) }
-    {
-        self.number(some)?;
-        self.field(b" of ", all)?;
-        self.add(what)?;
-        self.add(b"\n")
-    }
-
-    /// Adds what else is to be said of what became of an activation whose task stands in this line.
-    fn also_over(&mut self, over: &Context<'_>, at: u32, fact: Fact) -> Result<(), Memory>
-        requires { AreReaders over.now.spans.now over.now.lines.now over.now.readers.now }
-        ensures { OnOk result (self.new ≡ self.old ++ also_text over.now.spans.now over.now.lines.now at fact) }
-    {
-        self.also(over.readers, at, fact)
-    }
-
-    /// Adds a sentence with what else is to be said and the number of those that are like it, as a line.
-    fn sentence_line(
-        &mut self,
-        over: &Context<'_>,
-        sentence: Sentence,
-        more: u64,
-    ) -> Result<(), Memory>
-        requires { AreReaders over.now.spans.now over.now.lines.now over.now.readers.now }
-        ensures { OnOk result (self.new ≡ self.old ++ line (sentence_text over.now.text.now over.now.names.now sentence
-            ++ also_text over.now.spans.now over.now.lines.now sentence.task_line sentence.fact ++ more_text more)) }
-    {
-        self.sentence(over.text, over.names, sentence)?;
-        self.also_over(over, sentence.task_line, sentence.fact)?;
-        self.more(more)?;
-        self.add(b"\n")?;
-        Ok(())
-    }
-
-    /// Adds the line of a sentence for so many that are alike, if there are any.
-    fn told_for(&mut self, over: &Context<'_>, sentence: Sentence, count: u64) -> Result<(), Memory>
-        requires { AreReaders over.now.spans.now over.now.lines.now over.now.readers.now }
-        ensures { OnOk result (self.new ≡ self.old
-            ++ told_for over.now.text.now over.now.names.now over.now.spans.now over.now.lines.now sentence count) }
-    {
-        if count == 0 {
-            Ok(())
-        } else {
-            self.sentence_line(over, sentence, count - 1)
-        }
-    }
-
-    /// Adds the lines of sentences.
-    fn lines(&mut self, alloc: Global, over: &Context<'_>, all: &[Sentence]) -> Result<(), Memory>
-        requires { AreReaders over.now.spans.now over.now.lines.now over.now.readers.now }
-        ensures { OnOk result (self.new ≡ self.old
-            ++ sentence_lines over.now.text.now over.now.names.now over.now.spans.now over.now.lines.now all.now) }
-    {
-        let mut tally = Tally::of(alloc, all)?;
-        for sentence in all {
-            let count = tally.take(*sentence);
-            self.told_for(over, *sentence, count)?;
-        }
-        Ok(())
-    }
-
-    /// Adds the lines before those of the sentences.
-    fn heading(&mut self, control: ControlEnd, count: Counts) -> Result<(), Memory>
-        ensures { OnOk result (self.new ≡ self.old ++ heading control count.activations count.done count.there count.claimed) }
-    {
-        self.control_line(control, count.activations)?;
-        self.share_line(count.done, count.activations, b" activations are done")?;
-        self.share_line(
-            count.there,
-            count.claimed,
-            b" bytes of the output are there",
-        )?;
-        Ok(())
-    }
-}
-
-/// The word for so many activations.
-fn activation_word(count: u64) -> &'static [u8]
-    ensures { result.now ≡ activation_word count }
+/// Adds how many more sentences are like the one that was told, if there are any.
+fn add_more(told: &mut Text, more: u64) -> Result<(), Memory>
+    ensures { OnOk result (told.new ≡ told.old ++ more_text more) }
 {
-    if count == 1 {
-        b" activation"
+    if more == 0 {
+        Ok(())
     } else {
-        b" activations"
+        add_likewise(told, more)
     }
+}
+
+/// Adds how many activations there were when `main` ended.
+fn add_created(told: &mut Text, count: u64) -> Result<(), Memory>
+    ensures { OnOk result (told.new ≡ told.old ++ created_text count) }
+{
+    told.field(b" after ", count)?;
+    told.add(activation_word(count))?;
+    Ok(())
+}
+
+/// Adds that `main` went no further.
+fn add_stopped(told: &mut Text, what: &[u8], count: u64) -> Result<(), Memory>
+    ensures { OnOk result (told.new ≡ told.old ++ (what.now ++ created_text count)) }
+{
+    told.add(what)?;
+    add_created(told, count)
+}
+
+/// Adds that `main` was stopped at a limit.
+fn add_limit(told: &mut Text, limit: u8, count: u64) -> Result<(), Memory>
+    ensures { OnOk result (told.new ≡ told.old ++ control_text (ControlEnd.Limit limit) count) }
+{
+    told.add(b"main was stopped")?;
+    add_created(told, count)?;
+    told.add(limit_text(limit))?;
+    Ok(())
+}
+
+/// Adds that `main` trapped.
+fn add_trapped(told: &mut Text, code: u8, at: u32, count: u64) -> Result<(), Memory>
+    ensures { OnOk result (told.new ≡ told.old ++ control_text (ControlEnd.Trapped code at) count) }
+{
+    told.field(b"main trapped in line ", at as u64)?;
+    add_created(told, count)?;
+    told.add(b": ")?;
+    told.add(trap_text(code))?;
+    Ok(())
+}
+
+/// Adds how `main` ended.
+fn add_control(told: &mut Text, control: ControlEnd, count: u64) -> Result<(), Memory>
+    ensures { OnOk result (told.new ≡ told.old ++ control_text control count) }
+{
+    match control {
+        ControlEnd::Done => add_stopped(told, b"main ended", count),
+        ControlEnd::Trapped { code, line } => add_trapped(told, code, line, count),
+        ControlEnd::OverBudget => add_stopped(told, b"main used up its turns", count),
+        ControlEnd::Limit(limit) => add_limit(told, limit, count),
+    }
+}
+
+/// Adds the line that tells how `main` ended.
+fn add_control_line(told: &mut Text, control: ControlEnd, count: u64) -> Result<(), Memory>
+    ensures { OnOk result (told.new ≡ told.old ++ line (control_text control count)) }
+{
+    add_control(told, control, count)?;
+    told.add(b"\n")
+}
+
+/// Adds a line that tells how many there are of how many.
+fn add_share_line(told: &mut Text, some: u64, all: u64, what: &[u8]) -> Result<(), Memory>
+    ensures { OnOk result (told.new ≡ told.old ++ line (share_text some all what.now)) }
+{
+    told.number(some)?;
+    told.field(b" of ", all)?;
+    told.add(what)?;
+    told.add(b"\n")
+}
+
+/// Adds what else is to be said of what became of an activation whose task stands in this line.
+fn add_also_over(told: &mut Text, over: &Context<'_>, at: u32, fact: Fact) -> Result<(), Memory>
+    requires { AreReaders over.now.spans.now over.now.lines.now over.now.readers.now }
+    ensures { OnOk result (told.new ≡ told.old ++ also_text over.now.spans.now over.now.lines.now at fact) }
+{
+    add_also(told, over.readers, at, fact)
+}
+
+/// Adds a sentence with what else is to be said and the number of those that are like it, as a line.
+fn add_sentence_line(
+    told: &mut Text,
+    over: &Context<'_>,
+    sentence: Sentence,
+    more: u64,
+) -> Result<(), Memory>
+    requires { AreReaders over.now.spans.now over.now.lines.now over.now.readers.now }
+    ensures { OnOk result (told.new ≡ told.old ++ line (sentence_text over.now.text.now over.now.names.now sentence
+        ++ also_text over.now.spans.now over.now.lines.now sentence.task_line sentence.fact ++ more_text more)) }
+{
+    add_sentence(told, over.text, over.names, sentence)?;
+    add_also_over(told, over, sentence.task_line, sentence.fact)?;
+    add_more(told, more)?;
+    told.add(b"\n")?;
+    Ok(())
+}
+
+/// Adds the line of a sentence for so many that are alike, if there are any.
+fn add_told_for(
+    told: &mut Text,
+    over: &Context<'_>,
+    sentence: Sentence,
+    count: u64,
+) -> Result<(), Memory>
+    requires { AreReaders over.now.spans.now over.now.lines.now over.now.readers.now }
+    ensures { OnOk result (told.new ≡ told.old
+        ++ told_for over.now.text.now over.now.names.now over.now.spans.now over.now.lines.now sentence count) }
+{
+    if count == 0 {
+        Ok(())
+    } else {
+        add_sentence_line(told, over, sentence, count - 1)
+    }
+}
+
+/// Adds the lines of sentences.
+fn add_lines(
+    told: &mut Text,
+    alloc: Global,
+    over: &Context<'_>,
+    all: &[Sentence],
+) -> Result<(), Memory>
+    requires { AreReaders over.now.spans.now over.now.lines.now over.now.readers.now }
+    ensures { OnOk result (told.new ≡ told.old
+        ++ sentence_lines over.now.text.now over.now.names.now over.now.spans.now over.now.lines.now all.now) }
+{
+    let mut tally = Tally::of(alloc, all)?;
+    for sentence in all {
+        let count = tally.take(*sentence);
+        add_told_for(told, over, *sentence, count)?;
+    }
+    Ok(())
+}
+
+/// Adds the lines before those of the sentences.
+fn add_heading(told: &mut Text, control: ControlEnd, count: Counts) -> Result<(), Memory>
+    ensures { OnOk result (told.new ≡ told.old ++ heading control count.activations count.done count.there count.claimed) }
+{
+    add_control_line(told, control, count.activations)?;
+    add_share_line(
+        told,
+        count.done,
+        count.activations,
+        b" activations are done",
+    )?;
+    add_share_line(
+        told,
+        count.there,
+        count.claimed,
+        b" bytes of the output are there",
+    )?;
+    Ok(())
 }
 
 /// What stopped `main` at a limit.
@@ -299,7 +291,7 @@ pub fn report_text(
 {
     let all = sentences(alloc, layout, ends, lines)?;
     let mut told = Text::new(alloc);
-    told.heading(control, count_all(layout, ends))?;
+    add_heading(&mut told, control, count_all(layout, ends))?;
     let readers = Readers::of(alloc, layout.spans.as_slice(), lines)?;
     let over = Context {
         text,
@@ -308,6 +300,6 @@ pub fn report_text(
         lines,
         readers: &readers,
     };
-    told.lines(alloc, &over, &all)?;
+    add_lines(&mut told, alloc, &over, &all)?;
     Ok(told.into_bytes())
 }

@@ -6,9 +6,9 @@ ghost use Rattle.osview_sentences.specs.Sentences.{trap_text, trap_words, waits_
 
 use crate::fact::{Fact, Sentence, Supply};
 use crate::stream_name::{StreamName, name_of};
-use crate::text::Text;
 use c_int::{OperatorTrap, Trap};
 use os_io::Memory;
+use osview_text::Text;
 
 /// A trap in words.
 fn trap_words(trap: Trap) -> &'static [u8]
@@ -37,201 +37,204 @@ pub(crate) fn trap_text(code: u8) -> &'static [u8]
     }
 }
 
-impl Text {
-    /// Adds what a stream is called by its name.
-    fn called(&mut self, text: &[u8], stream: u32, name: StreamName) -> Result<(), Memory>
-        ensures { OnOk result (self.new ≡ self.old ++ called text.now stream name) }
-    {
-        self.add(name.bytes(text))?;
-        if name.count == 1 {
-            return Ok(());
-        }
-        self.field(b"[", stream.saturating_sub(name.first) as u64)?;
-        self.add(b"]")
+/// Adds what a stream is called by its name.
+fn add_called(told: &mut Text, text: &[u8], stream: u32, name: StreamName) -> Result<(), Memory>
+    ensures { OnOk result (told.new ≡ told.old ++ called text.now stream name) }
+{
+    told.add(name.bytes(text))?;
+    if name.count == 1 {
+        return Ok(());
     }
+    told.field(b"[", stream.saturating_sub(name.first) as u64)?;
+    told.add(b"]")
+}
 
-    /// Adds what a stream is called.
-    fn stream(&mut self, text: &[u8], names: &[StreamName], stream: u32) -> Result<(), Memory>
-        ensures { OnOk result (self.new ≡ self.old ++ stream_text text.now names.now stream) }
-    {
-        match name_of(names, stream) {
-            Some(name) => self.called(text, stream, name),
-            None => self.number(stream as u64),
-        }
+/// Adds what a stream is called.
+fn add_stream(told: &mut Text, text: &[u8], names: &[StreamName], stream: u32) -> Result<(), Memory>
+    ensures { OnOk result (told.new ≡ told.old ++ stream_text text.now names.now stream) }
+{
+    match name_of(names, stream) {
+        Some(name) => add_called(told, text, stream, name),
+        None => told.number(stream as u64),
     }
+}
 
-    /// Adds that an activation should give an element, and how that one fares.
-    fn giver(&mut self, giver: u32, fares: &[u8]) -> Result<(), Memory>
-        ensures { OnOk result (self.new ≡ self.old ++ from_text giver fares.now) }
-    {
-        self.field(b" from activation ", giver as u64)?;
-        self.add(b", which ")?;
-        self.add(fares)?;
-        Ok(())
-    }
+/// Adds that an activation should give an element, and how that one fares.
+fn add_giver(told: &mut Text, giver: u32, fares: &[u8]) -> Result<(), Memory>
+    ensures { OnOk result (told.new ≡ told.old ++ from_text giver fares.now) }
+{
+    told.field(b" from activation ", giver as u64)?;
+    told.add(b", which ")?;
+    told.add(fares)?;
+    Ok(())
+}
 
-    /// Adds who should give an element.
-    fn supply(&mut self, supply: Supply) -> Result<(), Memory>
-        ensures { OnOk result (self.new ≡ self.old ++ supply_text supply) }
-    {
-        match supply {
-            Supply::Ended => self.add(b", which stands past the end of the input"),
-            Supply::Nobody => self.add(b", which no task writes"),
-            Supply::Itself => Ok(()),
-            Supply::Waiting { giver } => self.giver(giver, b"waits too"),
-        }
+/// Adds who should give an element.
+fn add_supply(told: &mut Text, supply: Supply) -> Result<(), Memory>
+    ensures { OnOk result (told.new ≡ told.old ++ supply_text supply) }
+{
+    match supply {
+        Supply::Ended => told.add(b", which stands past the end of the input"),
+        Supply::Nobody => told.add(b", which no task writes"),
+        Supply::Itself => Ok(()),
+        Supply::Waiting { giver } => add_giver(told, giver, b"waits too"),
     }
+}
 
-    /// Adds where a trap was hit, and which.
-    fn trap(&mut self, code: u8, line: u32) -> Result<(), Memory>
-        ensures { OnOk result (self.new ≡ self.old ++ fact_text [] [] (Fact.Trapped code line)) }
-    {
-        self.field(b"trapped in line ", line as u64)?;
-        self.add(b": ")?;
-        self.add(trap_text(code))
-    }
+/// Adds where a trap was hit, and which.
+fn add_trap(told: &mut Text, code: u8, line: u32) -> Result<(), Memory>
+    ensures { OnOk result (told.new ≡ told.old ++ fact_text [] [] (Fact.Trapped code line)) }
+{
+    told.field(b"trapped in line ", line as u64)?;
+    told.add(b": ")?;
+    told.add(trap_text(code))
+}
 
-    /// Adds that it never ran, and by which activation.
-    fn poisoned(&mut self, root: u32) -> Result<(), Memory>
-        ensures { OnOk result (self.new ≡ self.old ++ fact_text [] [] (Fact.Poisoned root)) }
-    {
-        self.field(b"never ran, since activation ", root as u64)?;
-        self.add(b" failed")
-    }
+/// Adds that it never ran, and by which activation.
+fn add_poisoned(told: &mut Text, root: u32) -> Result<(), Memory>
+    ensures { OnOk result (told.new ≡ told.old ++ fact_text [] [] (Fact.Poisoned root)) }
+{
+    told.field(b"never ran, since activation ", root as u64)?;
+    told.add(b" failed")
+}
 
-    /// Adds for which element it waits, but for who should give it.
-    fn element(
-        &mut self,
-        text: &[u8],
-        names: &[StreamName],
-        stream: u32,
-        position: u64,
-    ) -> Result<(), Memory>
-        ensures { OnOk result (self.new ≡ self.old ++ element_text (stream_text text.now names.now stream) position) }
-    {
-        self.field(b"element ", position)?;
-        self.add(b" of stream ")?;
-        self.stream(text, names, stream)?;
-        Ok(())
-    }
+/// Adds for which element it waits, but for who should give it.
+fn add_element(
+    told: &mut Text,
+    text: &[u8],
+    names: &[StreamName],
+    stream: u32,
+    position: u64,
+) -> Result<(), Memory>
+    ensures { OnOk result (told.new ≡ told.old ++ element_text (stream_text text.now names.now stream) position) }
+{
+    told.field(b"element ", position)?;
+    told.add(b" of stream ")?;
+    add_stream(told, text, names, stream)?;
+    Ok(())
+}
 
-    /// Adds for which element of others it waits, and who should give it.
-    fn given(
-        &mut self,
-        text: &[u8],
-        names: &[StreamName],
-        stream: u32,
-        position: u64,
-        supply: Supply,
-    ) -> Result<(), Memory>
-        ensures { OnOk result (self.new ≡ self.old ++ given_text (stream_text text.now names.now stream) position supply) }
-    {
-        self.add(b"waits for ")?;
-        self.element(text, names, stream, position)?;
-        self.supply(supply)?;
-        Ok(())
-    }
+/// Adds for which element of others it waits, and who should give it.
+fn add_given(
+    told: &mut Text,
+    text: &[u8],
+    names: &[StreamName],
+    stream: u32,
+    position: u64,
+    supply: Supply,
+) -> Result<(), Memory>
+    ensures { OnOk result (told.new ≡ told.old ++ given_text (stream_text text.now names.now stream) position supply) }
+{
+    told.add(b"waits for ")?;
+    add_element(told, text, names, stream, position)?;
+    add_supply(told, supply)?;
+    Ok(())
+}
 
-    /// Adds that a stream has no first element.
-    fn no_first(&mut self, text: &[u8], names: &[StreamName], stream: u32) -> Result<(), Memory>
-        ensures { OnOk result (self.new ≡ self.old ++ (codes "waits for itself: stream " ++ stream_text text.now names.now stream
-            ++ codes " has no first element")) }
-    {
-        self.add(b"waits for itself: stream ")?;
-        self.stream(text, names, stream)?;
-        self.add(b" has no first element")?;
-        Ok(())
-    }
+/// Adds that a stream has no first element.
+fn add_no_first(
+    told: &mut Text,
+    text: &[u8],
+    names: &[StreamName],
+    stream: u32,
+) -> Result<(), Memory>
+    ensures { OnOk result (told.new ≡ told.old ++ (codes "waits for itself: stream " ++ stream_text text.now names.now stream
+        ++ codes " has no first element")) }
+{
+    told.add(b"waits for itself: stream ")?;
+    add_stream(told, text, names, stream)?;
+    told.add(b" has no first element")?;
+    Ok(())
+}
 
-    /// Adds for which element it waits that it should write.
-    fn own(
-        &mut self,
-        text: &[u8],
-        names: &[StreamName],
-        stream: u32,
-        position: u64,
-    ) -> Result<(), Memory>
-        ensures { OnOk result (self.new ≡ self.old ++ (codes "waits for itself: it writes " ++ element_text (stream_text text.now names.now stream) position)) }
-    {
-        self.add(b"waits for itself: it writes ")?;
-        self.element(text, names, stream, position)?;
-        Ok(())
-    }
+/// Adds for which element it waits that it should write.
+fn add_own(
+    told: &mut Text,
+    text: &[u8],
+    names: &[StreamName],
+    stream: u32,
+    position: u64,
+) -> Result<(), Memory>
+    ensures { OnOk result (told.new ≡ told.old ++ (codes "waits for itself: it writes " ++ element_text (stream_text text.now names.now stream) position)) }
+{
+    told.add(b"waits for itself: it writes ")?;
+    add_element(told, text, names, stream, position)?;
+    Ok(())
+}
 
-    /// Adds that it waits for itself.
-    fn itself(
-        &mut self,
-        text: &[u8],
-        names: &[StreamName],
-        stream: u32,
-        position: u64,
-    ) -> Result<(), Memory>
-        ensures { OnOk result (self.new ≡ self.old ++ waits_text (stream_text text.now names.now stream) position Supply.Itself) }
-    {
-        if position == 0 {
-            self.no_first(text, names, stream)
-        } else {
-            self.own(text, names, stream, position)
-        }
+/// Adds that it waits for itself.
+fn add_itself(
+    told: &mut Text,
+    text: &[u8],
+    names: &[StreamName],
+    stream: u32,
+    position: u64,
+) -> Result<(), Memory>
+    ensures { OnOk result (told.new ≡ told.old ++ waits_text (stream_text text.now names.now stream) position Supply.Itself) }
+{
+    if position == 0 {
+        add_no_first(told, text, names, stream)
+    } else {
+        add_own(told, text, names, stream, position)
     }
+}
 
-    /// Adds for which element it waits, and who should give it.
-    fn waits(
-        &mut self,
-        text: &[u8],
-        names: &[StreamName],
-        stream: u32,
-        position: u64,
-        supply: Supply,
-    ) -> Result<(), Memory>
-        ensures { OnOk result (self.new ≡ self.old ++ waits_text (stream_text text.now names.now stream) position supply) }
-    {
-        match supply {
-            Supply::Itself => self.itself(text, names, stream, position),
-            Supply::Ended | Supply::Nobody | Supply::Waiting { .. } => self.given(
-                text, names, stream, position, supply,
-            ),
-        }
+/// Adds for which element it waits, and who should give it.
+fn add_waits(
+    told: &mut Text,
+    text: &[u8],
+    names: &[StreamName],
+    stream: u32,
+    position: u64,
+    supply: Supply,
+) -> Result<(), Memory>
+    ensures { OnOk result (told.new ≡ told.old ++ waits_text (stream_text text.now names.now stream) position supply) }
+{
+    match supply {
+        Supply::Itself => add_itself(told, text, names, stream, position),
+        Supply::Ended | Supply::Nobody | Supply::Waiting { .. } => add_given(
+            told, text, names, stream, position, supply,
+        ),
     }
+}
 
-    /// Adds what became of an activation.
-    fn fact(&mut self, text: &[u8], names: &[StreamName], fact: Fact) -> Result<(), Memory>
-        ensures { OnOk result (self.new ≡ self.old ++ fact_text text.now names.now fact) }
-    {
-        match fact {
-            Fact::Trapped { code, line } => self.trap(code, line),
-            Fact::OverBudget => self.add(b"used up its turns"),
-            Fact::Poisoned { root } => self.poisoned(root),
-            Fact::Waits {
-                stream,
-                position,
-                supply,
-            } => self.waits(text, names, stream, position, supply),
-        }
+/// Adds what became of an activation.
+fn add_fact(told: &mut Text, text: &[u8], names: &[StreamName], fact: Fact) -> Result<(), Memory>
+    ensures { OnOk result (told.new ≡ told.old ++ fact_text text.now names.now fact) }
+{
+    match fact {
+        Fact::Trapped { code, line } => add_trap(told, code, line),
+        Fact::OverBudget => told.add(b"used up its turns"),
+        Fact::Poisoned { root } => add_poisoned(told, root),
+        Fact::Waits {
+            stream,
+            position,
+            supply,
+        } => add_waits(told, text, names, stream, position, supply),
     }
+}
 
-    /// Adds which activation a sentence is of.
-    fn who(&mut self, sentence: Sentence) -> Result<(), Memory>
-        ensures { OnOk result (self.new ≡ self.old ++ (codes "activation " ++ decimal sentence.activation
-            ++ codes ", of the task in line " ++ decimal sentence.task_line ++ codes ", ")) }
-    {
-        self.field(b"activation ", sentence.activation as u64)?;
-        self.field(b", of the task in line ", sentence.task_line as u64)?;
-        self.add(b", ")?;
-        Ok(())
-    }
+/// Adds which activation a sentence is of.
+fn add_who(told: &mut Text, sentence: Sentence) -> Result<(), Memory>
+    ensures { OnOk result (told.new ≡ told.old ++ (codes "activation " ++ decimal sentence.activation
+        ++ codes ", of the task in line " ++ decimal sentence.task_line ++ codes ", ")) }
+{
+    told.field(b"activation ", sentence.activation as u64)?;
+    told.field(b", of the task in line ", sentence.task_line as u64)?;
+    told.add(b", ")?;
+    Ok(())
+}
 
-    /// Adds a sentence.
-    pub(crate) fn sentence(
-        &mut self,
-        text: &[u8],
-        names: &[StreamName],
-        sentence: Sentence,
-    ) -> Result<(), Memory>
-        ensures { OnOk result (self.new ≡ self.old ++ sentence_text text.now names.now sentence) }
-    {
-        self.who(sentence)?;
-        self.fact(text, names, sentence.fact)?;
-        Ok(())
-    }
+/// Adds a sentence.
+pub(crate) fn add_sentence(
+    told: &mut Text,
+    text: &[u8],
+    names: &[StreamName],
+    sentence: Sentence,
+) -> Result<(), Memory>
+    ensures { OnOk result (told.new ≡ told.old ++ sentence_text text.now names.now sentence) }
+{
+    add_who(told, sentence)?;
+    add_fact(told, text, names, sentence.fact)?;
+    Ok(())
 }

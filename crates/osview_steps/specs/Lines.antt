@@ -6,6 +6,7 @@ use Rattle.collector.specs.Line.{line}
 use Rattle.osview_steps.specs.Tallies.{activation_count, all_steps, least, mean, most, ratio, share, steps_in, taken_by, turns_in}
 use Rattle.osview_steps.specs.declared.runs.Taken.{Taken}
 use Rattle.osview_steps.specs.declared.runs.TaskRun.{TaskRun}
+use Rattle.osview_text.specs.Words.{activation_word}
 
 -- a number of tenths, and of hundredths
 abbrev pub tenths : ℕ → List ℕ
@@ -17,8 +18,8 @@ hundredths n = decimal (n / 100) ++ codes "." ++ decimal (n / 10 % 10) ++ decima
 -- how many activations a task has, by the line of its pragma, and how many of them ran
 abbrev pub counts_text : (at activations ran : ℕ) → List ℕ
 counts_text at activations ran =
-    codes "line " ++ decimal at ++ codes ": " ++ decimal activations ++ (if activations == 1 then codes " activation, " else codes " activations, ")
-    ++ decimal ran ++ codes " of them ran"
+    codes "line " ++ decimal at ++ codes ": " ++ decimal activations ++ activation_word activations ++ codes ", " ++ decimal ran
+    ++ codes " of them ran"
 
 -- of the steps of those that ran the least and the most, the mean, the sum, and its share of the steps of the run
 abbrev pub range_text : (low high : ℕ) → List ℕ

@@ -11,19 +11,8 @@ use crate::numbers::{add_between, add_hundredths, add_tenths, mean, ratio, share
 use crate::runs::{Taken, TaskRun};
 use crate::tally::{Tally, plus, tallies, total};
 use os_io::Memory;
-use osview_text::Text;
+use osview_text::{Text, activation_word};
 use std::alloc::Global;
-
-/// What stands behind the number of a task's activations.
-fn activation_word(count: u32) -> &'static [u8]
-    ensures { result.now ≡ (if count == 1 then codes " activation, " else codes " activations, ") }
-{
-    if count == 1 {
-        b" activation, "
-    } else {
-        b" activations, "
-    }
-}
 
 /// Adds how many activations a task has, and how many of them ran.
 fn add_counts(told: &mut Text, line: u32, activations: u32, ran: u32) -> Result<(), Memory>
@@ -31,7 +20,8 @@ fn add_counts(told: &mut Text, line: u32, activations: u32, ran: u32) -> Result<
 {
     told.field(b"line ", u64::from(line))?;
     told.field(b": ", u64::from(activations))?;
-    told.field(activation_word(activations), u64::from(ran))?;
+    told.add(activation_word(u64::from(activations)))?;
+    told.field(b", ", u64::from(ran))?;
     told.add(b" of them ran")
 }
 

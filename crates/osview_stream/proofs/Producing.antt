@@ -1,15 +1,13 @@
--- The spans that write at positions.
-use Rattle.std.proofs.Common.{◌≡◌, ◌∙◌, ◌+◌, ◌<◌, ◌≤◌, ◌&&◌, ℕ, suc, Bool, true, false, cond, All, List, [], ◌∷◌, Option, None, Some, ap, arith, filter, length, get_or, map, refl, subst, sum_by, sym, zero-add}
-use Rattle.std.specs.Prelude.{IfSome, ◌==◌}
-use Rattle.std.specs.Option.{option_map}
+-- How many positions of a stream are claimed for writing.
+use Rattle.std.proofs.Common.{◌≡◌, ◌∙◌, ◌+◌, ◌<◌, ◌≤◌, ◌&&◌, ℕ, suc, Bool, true, false, cond, All, List, [], ◌∷◌, ap, arith, filter, length, get_or, map, refl, sum_by, sym, zero-add}
+use Rattle.std.specs.Prelude.{◌==◌}
 use Rattle.std.proofs.lemmas.Bool.{ne_eqb}
 use Rattle.std.proofs.lemmas.List.FromFn.{get_or-map-range_with_len, length-map-range_with_len}
 use Rattle.std.proofs.lemmas.List.Sums.{sum_by-cons}
-use Rattle.collector.proofs.Producers.{produces_of}
 use Rattle.stream_match_layouts.proofs.Windows.{claims_in-windows}
 use Rattle.flow_core_laws.specs.FirstPosition.{is_write_to, write_cursor}
 use Rattle.flow_core_laws.specs.Place.{written_count}
-use Rattle.flow_core_laws.specs.Window.{Window, claims_of, producer, windows}
+use Rattle.flow_core_laws.specs.Window.{Window, claims_of, windows}
 use Rattle.flow_core_laws.specs.declared.claim.Claim.{Claim}
 use Rattle.flow_core_laws.specs.declared.activation.Activation.{Activation}
 use Rattle.stream_match_layouts.specs.Lawful.{IsLawfulClaim}
@@ -17,15 +15,7 @@ use Rattle.stream_match_layouts.specs.Layout.{IsLayout, IsLayoutOf, claims_in, s
 use Rattle.stream_match_layouts.specs.declared.layout.Layout.{Layout}
 use Rattle.stream_match_layouts.specs.declared.span.Span.{Span}
 
--- the span of a producer covers the position
-pub covers_if : (activations : List Activation) (stream position : ℕ) (found : Option Span) → found ≡ option_map span_of (producer activations stream position)
-    → IfSome found (λ span. position < span.first + span.count)
-covers_if activations stream position None is = tt
-covers_if activations stream position (Some span) is =
-    let p = produces_of activations stream position span is in
-    subst (λ (s : Span). position < s.first + s.count) (sym p.is) p.to
-
--- how many positions of a stream are claimed for writing
+-- the cursor of a stream that is there
 pub claimed_of : (layout : Layout) (activations : List Activation) → IsLayoutOf layout activations → (stream : ℕ) → stream < length layout.writers
     → get_or layout.writes stream 0 ≡ written_count activations stream
 claimed_of layout activations of stream exists =

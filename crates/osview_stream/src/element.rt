@@ -1,4 +1,4 @@
-ghost use Rattle.std.specs.Prelude.{◌≡◌, ◌<◌, ◌+◌, ◌-◌, ℕ, [], None, IfSome, List, length, slice_get, slice_index_or};
+ghost use Rattle.std.specs.Prelude.{◌≡◌, ◌<◌, ◌+◌, ◌-◌, ℕ, [], None, IfSome, List, slice_get, slice_index_or};
 ghost use Rattle.std.specs.Option.{option_map};
 ghost use Rattle.flow_core_laws.specs.declared.activation.Activation.{Activation};
 ghost use Rattle.flow_core_laws.specs.Element.{output_element};
@@ -7,23 +7,11 @@ ghost use Rattle.flow_core_laws.specs.Streams.{input_source, produced_source, st
 ghost use Rattle.flow_core_laws.specs.Window.{producer};
 ghost use Rattle.osview_outcomes.specs.Outcomes.{AreOutcomesOf};
 ghost use Rattle.osview_stream.specs.Given.{given_by};
-ghost use Rattle.stream_match_layouts.specs.Layout.{IsLayout, IsLayoutOf, span_of};
+ghost use Rattle.stream_match_layouts.specs.Layout.{span_of};
 
 use flow_core::{Elem, TaskEnd};
 use osview_outcomes::Outcomes;
-use stream_match_layouts::{Layout, Span};
-
-/// The write span that covers a position of a stream.
-pub(crate) fn writer(layout: &Layout, stream: u32, position: u64) -> Option<Span>
-    requires layout { IsLayout layout.now }
-    requires exists { stream < length layout.now.writers }
-    ensures covers { IfSome result (λ span. position < span.first + span.count) }
-    ensures writer { (activations : List Activation) → IsLayoutOf layout.now activations
-        → result ≡ option_map span_of (producer activations stream position) }
-{
-    let number = layout.producer(stream, position)?;
-    layout.get_span(number)
-}
+use stream_match_layouts::Span;
 
 /// The element of the input at a position.
 pub(crate) fn input_element(input: &[u8], position: u64) -> Option<Elem>

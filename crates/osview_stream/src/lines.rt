@@ -7,7 +7,8 @@ ghost use Rattle.osview_outcomes.specs.Outcomes.{AreOutcomesOf};
 ghost use Rattle.osview_stream.specs.Elements.{activation_text, element_line, element_text, position_count, stream_lines};
 ghost use Rattle.stream_match_layouts.specs.Layout.{IsLayout, IsLayoutOf};
 
-use crate::element::{input_element, produced_element, writer};
+use crate::element::{input_element, produced_element};
+use collector::producer;
 use flow_core::Elem;
 use os_io::Memory;
 use osview_outcomes::Outcomes;
@@ -92,7 +93,7 @@ fn add_produced_line(
         → AreOutcomesOf over.now.outcomes.now state
         → OnOk result (told.new ≡ told.old ++ element_line over.now.lines.now activations over.now.input.now state stream position) }
 {
-    let span = writer(over.layout, stream, position);
+    let span = producer(over.layout, stream, position);
     told.number(position)?;
     told.add(b" ")?;
     add_element(told, produced_element(over.outcomes, span, position))?;

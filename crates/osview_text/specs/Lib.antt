@@ -1,1 +1,2 @@
--- What a reader believes: nothing but the words of the library.
+-- What a reader believes.
+pub mod Words

@@ -15,8 +15,8 @@ returns c = λ activations of.
     let all = c.deref.result.now in
     let n = c.count_all.result in
     let is = c.count_all.ensures in
-    c.into_bytes.ensures ∙ c.in_ok-lines.ensures
-    ∙ ap (λ x. x ++ lines all) (c.in_ok-heading.ensures ∙ ap (λ x. x ++ heading control n.activations n.done n.there n.claimed) c.new-told.ensures)
+    c.into_bytes.ensures ∙ c.in_ok-add_lines.ensures
+    ∙ ap (λ x. x ++ lines all) (c.in_ok-add_heading.ensures ∙ ap (λ x. x ++ heading control n.activations n.done n.there n.claimed) c.new-told.ensures)
     ∙ ap (λ k. heading control k n.done n.there n.claimed ++ lines all) (is.activations activations of)
     ∙ ap (λ k. heading control (length activations) k n.there n.claimed ++ lines all) is.done
     ∙ ap (λ k. heading control (length activations) (count_by has_done ends.ends) k n.claimed ++ lines all) is.there
