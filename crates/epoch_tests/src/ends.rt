@@ -3,7 +3,7 @@
 ghost use Rattle.std.specs.Prelude.{◌≤◌};
 
 use crate::compiled::compiled;
-use crate::lengths::are_same;
+use crate::ways::are_same;
 use epoch_run::{Budgets, EpochSize, RunResult, run_epochs, run_epochs_of};
 use flow_core_laws::ControlEnd;
 use os_code::Code;

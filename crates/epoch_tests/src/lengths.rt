@@ -1,23 +1,12 @@
-//! Runs in short epochs beside the run in one.
-
-ghost use Rattle.std.specs.Prelude.{◌≤◌};
+//! Programs whose activations wait for one another, starve and fail, in short epochs beside one epoch.
 
 use crate::compiled::compiled;
-use epoch_run::{Budgets, EpochSize, RunResult, run_epochs, run_epochs_of};
-use example_texts::{
-    ADLER, ADPCM, BANK, CRC, CURVE, DCT, DELTA, DIVIDE, FIRST, GAIN, NOISE, OVERLAP, RICE, SQUEEZE,
-    UNADPCM, UNBANK, UNDCT, UNDELTA, UNNOISE, UNRICE, UNSQUEEZE, UNWAVELET, WAITING as WAITS,
-    WAVELET,
-};
-use kernels::{BROADCAST, INVERT, LIFT, PIPELINE, SMOOTH, UNLIFT};
-use os_code::Code;
+use crate::ways::{Job, Ways, is_as_in_one_epoch, run_whole};
 use std::alloc::Global;
 use std::process::Abort;
-use std::test::Fail;
 use std::thread::Threads;
-use task_workers::NoGate;
 
-/// How many turns an activation has: enough for all but what never ends.
+/// How many turns an activation has: more than any of them takes, but for those that never end.
 const TURNS: u64 = 40;
 
 const INPUT: [u8; 24] = [
@@ -170,178 +159,24 @@ const LONG: &str = r"int main(void) {
 }
 ";
 
-const PROGRAMS: [&str; 13] = [
-    INVERT, SMOOTH, LIFT, UNLIFT, PIPELINE, BROADCAST, WAITING, BACKWARD, KEPT, TICKED, STARVED,
-    POISONED, LONG,
-];
+const PROGRAMS: [&str; 7] = [WAITING, BACKWARD, KEPT, TICKED, STARVED, POISONED, LONG];
 
-/// Epochs of at most so many activations, whatever their windows.
-fn of_activations(activations: u32) -> EpochSize
-    requires { 1 ≤ activations }
-    ensures { 1 ≤ result.activations }
-{
-    EpochSize {
-        activations,
-        elements: 65_536,
-        stretch: 64,
-        growth: 1,
-    }
-}
-
-/// Epochs of one activation, and of up to so many while as many wait.
-fn growing(growth: u32) -> EpochSize
-    ensures { 1 ≤ result.activations }
-{
-    EpochSize {
-        activations: 1,
-        elements: 65_536,
-        stretch: 64,
-        growth,
-    }
-}
-
-/// Epochs that end with the activation whose windows make so many elements.
-fn of_elements(elements: u64) -> EpochSize
-    ensures { 1 ≤ result.activations }
-{
-    EpochSize {
-        activations: 4096,
-        elements,
-        stretch: 1,
-        growth: 0,
-    }
-}
-
-/// A run in epochs of a size, by so many workers.
-fn run<R: Threads + Sync>(
-    rt: &R,
-    alloc: Global,
-    code: &Code,
-    size: EpochSize,
-    workers: u32,
-) -> Option<RunResult>
-    requires some { 1 ≤ size.activations }
-    requires workers { (1 ≤ workers) × (workers ≤ 64) }
-{
-    let budgets = Budgets {
-        task: TURNS,
-        control: 1_000_000,
+/// Asks that a program comes to the same in each way as in one epoch.
+fn comes_to_the_same<R: Threads + Sync + Abort>(rt: &R, alloc: Global, text: &str) {
+    let code = compiled(rt, alloc, text).expect(rt, text);
+    let job = Job {
+        text,
+        code: &code,
+        input: &INPUT,
+        turns: TURNS,
     };
-    run_epochs_of(rt, alloc, code, &INPUT, budgets, workers, &NoGate, size).ok()
-}
-
-/// A run by so many workers, in control order where that may be.
-fn run_in_order<R: Threads + Sync>(
-    rt: &R,
-    alloc: Global,
-    code: &Code,
-    workers: u32,
-) -> Option<RunResult>
-    requires { (1 ≤ workers) × (workers ≤ 64) }
-{
-    let budgets = Budgets {
-        task: TURNS,
-        control: 1_000_000,
-    };
-    run_epochs(rt, alloc, code, &INPUT, budgets, workers, &NoGate).ok()
-}
-
-/// Whether two runs came to the same: how each activation and `main` ended, and the output.
-pub(crate) fn are_same(run: &RunResult, other: &RunResult) -> bool {
-    run.control == other.control
-        && run.ends.ends.as_slice() == other.ends.ends.as_slice()
-        && run.ends.output.as_slice() == other.ends.output.as_slice()
-}
-
-/// Asks that memory was ample for a run, and that it came to the same as another one.
-fn is_same(rt: &impl Abort, run: Option<RunResult>, whole: &RunResult, text: &str) {
-    let same = match run {
-        Some(run) => are_same(&run, whole),
-        None => false,
-    };
-    assert!(rt; same, "{text}");
-}
-
-/// Asks that a program comes to the same in epochs of this size, by one worker and by three, as in one epoch.
-fn comes_to_the_same<R: Threads + Sync + Abort>(
-    rt: &R,
-    alloc: Global,
-    program: (&str, &Code),
-    whole: &RunResult,
-    size: EpochSize,
-)
-    requires { 1 ≤ size.activations }
-{
-    let (text, code) = program;
-    is_same(rt, run(rt, alloc, code, size, 1), whole, text);
-    is_same(rt, run(rt, alloc, code, size, 3), whole, text);
-}
-
-/// Asks that a program comes to the same as in one epoch: in short epochs, in epochs that end by elements, in epochs that grow while
-/// activations wait, and in control order.
-fn comes_to_the_same_in_each_way<R: Threads + Sync + Abort>(
-    rt: &R,
-    alloc: Global,
-    program: (&str, &Code),
-    whole: &RunResult,
-) {
-    for length in 1..5 {
-        comes_to_the_same(rt, alloc, program, whole, of_activations(length));
-    }
-    for elements in [0, 3, 10, 40] {
-        comes_to_the_same(rt, alloc, program, whole, of_elements(elements));
-    }
-    for growth in [2, 7] {
-        comes_to_the_same(rt, alloc, program, whole, growing(growth));
-    }
-    let (text, code) = program;
-    is_same(rt, run_in_order(rt, alloc, code, 1), whole, text);
-    is_same(rt, run_in_order(rt, alloc, code, 3), whole, text);
-}
-
-/// The code of a text, and what its run in one epoch came to.
-fn run_whole<R: Threads + Sync + Abort>(
-    rt: &R,
-    alloc: Global,
-    text: &str,
-) -> Option<(Code, RunResult)> {
-    let code = compiled(rt, alloc, text)?;
-    let whole = run(rt, alloc, &code, of_activations(4096), 1)?;
-    Some((code, whole))
-}
-
-/// Asks that each of some programs comes to the same as in one epoch.
-fn come_to_the_same<R: Threads + Sync + Abort>(
-    rt: &R,
-    alloc: Global,
-    texts: &[&str],
-) -> Result<(), Fail> {
-    for text in texts {
-        let Some((code, whole)) = run_whole(rt, alloc, *text) else {
-            return Err(Fail::from("a program, and ample memory"));
-        };
-        comes_to_the_same_in_each_way(rt, alloc, (*text, &code), &whole);
-    }
-    Ok(())
+    let whole = run_whole(rt, alloc, job);
+    is_as_in_one_epoch(rt, alloc, job, &whole, Ways::Each);
 }
 
 #[test]
-fn each_way_comes_to_what_one_epoch_comes_to(rt: HostRuntime) -> Result<(), Fail> {
-    come_to_the_same(&rt, rt.alloc(), &PROGRAMS)?;
-    come_to_the_same(
-        &rt,
-        rt.alloc(),
-        &[ADLER, CRC, CURVE, GAIN, FIRST, OVERLAP, DIVIDE, WAITS],
-    )?;
-    come_to_the_same(
-        &rt,
-        rt.alloc(),
-        &[ADPCM, UNADPCM, WAVELET, UNWAVELET, BANK, UNBANK],
-    )?;
-    come_to_the_same(
-        &rt,
-        rt.alloc(),
-        &[DELTA, UNDELTA, DCT, UNDCT, NOISE, UNNOISE],
-    )?;
-    come_to_the_same(&rt, rt.alloc(), &[RICE, UNRICE, SQUEEZE, UNSQUEEZE])
+fn each_way_comes_to_what_one_epoch_comes_to(rt: HostRuntime) {
+    for text in PROGRAMS {
+        comes_to_the_same(&rt, rt.alloc(), text);
+    }
 }

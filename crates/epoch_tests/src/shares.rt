@@ -3,7 +3,7 @@
 ghost use Rattle.std.specs.Prelude.{◌≤◌};
 
 use crate::compiled::compiled;
-use crate::lengths::are_same;
+use crate::ways::are_same;
 use epoch_run::{Budgets, RunResult, run_epochs};
 use os_code::Code;
 use std::alloc::Global;
