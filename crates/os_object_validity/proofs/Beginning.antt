@@ -4,13 +4,14 @@ use Rattle.std.specs.Prelude.{slice_get, IsTrue}
 use Rattle.std.proofs.lemmas.Bool.{cases_eq, cases_lt}
 use Rattle.std.proofs.lemmas.List.{get_or-set_same, get_or-set_other}
 use Rattle.std.proofs.lemmas.Option.{slice_get_within}
+use Rattle.os_code.specs.Checking.{height_in}
 use Rattle.os_code.specs.declared.parts.Parts.{Parts}
 use Rattle.os_code.specs.declared.unit.Unit.{Unit as CodeUnit}
 use Rattle.os_code.specs.IsValid.{HasRegions, Reaches, Starts}
 use Rattle.os_code.specs.Parts.{unit_at, is_within}
 use Rattle.os_code.proofs.Regions.{is_within-from, next_start-above}
 use Rattle.os_object_validity.specs.declared.heights.Waiting.{Waiting}
-use Rattle.os_object_validity.specs.Tables.{height_in, IsWaiting, IsEntry, IsExplored, IsStart, IsBegun}
+use Rattle.os_object_validity.specs.Tables.{IsWaiting, IsEntry, IsExplored, IsStart, IsBegun}
 use Rattle.os_object_validity.proofs.Exploring.{get-append, get-last, get-push, unit-is}
 
 none-replicate : (n place : ℕ) → height_in (replicate n None) place ≡ None

@@ -5,6 +5,7 @@ use Rattle.std.proofs.lemmas.Bool.{cases_eq}
 use Rattle.std.proofs.lemmas.List.{get_or-set_same, get_or-set_other}
 use Rattle.std.proofs.lemmas.List.Sums.{sum_by-cons}
 use Rattle.std.proofs.lemmas.Option.{slice_get-get_or}
+use Rattle.os_code.specs.Checking.{height_in}
 use Rattle.os_code.specs.declared.instr.Instr.{Instr}
 use Rattle.os_code.specs.declared.instr.Instr.TheVariants.{Push}
 use Rattle.os_code.specs.declared.parts.Parts.{Parts}
@@ -18,7 +19,7 @@ use Rattle.os_code.proofs.Lists.{there}
 use Rattle.os_code.proofs.Regions.{within, next_start-above, next_start-end}
 use Rattle.os_code.proofs.Spans.{same_unit, span, all_spans}
 use Rattle.os_object_validity.specs.declared.heights.Waiting.{Waiting}
-use Rattle.os_object_validity.specs.Tables.{height_in, IsWaiting, IsEntry, IsExplored, IsKept, FitsStack, unknown}
+use Rattle.os_object_validity.specs.Tables.{IsWaiting, IsEntry, IsExplored, IsKept, FitsStack, unknown}
 
 -- items of a list with one more
 pub get-append : {A : Type 0} (xs ys : List A) (k : ℕ) (x : A) → slice_get xs k ≡ Some x → slice_get (xs ++ ys) k ≡ Some x

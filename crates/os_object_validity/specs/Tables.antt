@@ -6,7 +6,7 @@ use Rattle.os_code.specs.declared.instr.Instr.{Instr}
 use Rattle.os_code.specs.declared.site.Site.{Site}
 use Rattle.os_code.specs.declared.site.SiteItem.{SiteItem}
 use Rattle.os_code.specs.declared.unit.Unit.{Unit as CodeUnit}
-use Rattle.os_code.specs.Checking.{implies, if_there, is_turn, is_function, called_of, spawned_of, ticked_of, stored_of}
+use Rattle.os_code.specs.Checking.{height_in, implies, if_there, is_turn, is_function, called_of, spawned_of, ticked_of, stored_of}
 use Rattle.os_code.specs.Effects.{operands_of, height_after, jump_of, needs_turn, slots_named, item_of, stands_in}
 use Rattle.os_code.specs.Heights.{HeightsFit}
 use Rattle.os_code.specs.IsValid.{HasInstr, Reaches}
@@ -144,9 +144,6 @@ AllStand code = (number : ℕ) (unit : CodeUnit) → unit_at code number ≡ Som
 
 -- Heights by place, as far as they are known, and the places whose instructions weren't looked at yet: a way from the unit's start reaches
 -- each place with its height, and the heights fit where the instruction was looked at.
-abbrev pub height_in : List (Option ℕ) → ℕ → Option ℕ
-height_in heights place = slice_index_or heights place None
-
 abbrev pub IsWaiting : List Waiting → ℕ → Type 0
 IsWaiting waiting place = (index : ℕ) × (w : Waiting) × (slice_get waiting index ≡ Some w) × (w.place ≡ place)
 

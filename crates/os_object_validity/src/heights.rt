@@ -1,10 +1,11 @@
 //! The heights of the operand stack, along the ways from the starts of units.
 
 ghost use Rattle.std.specs.Prelude.{◌≡◌, ℕ, ◌+◌, ◌*◌, ◌<◌, ◌≤◌, true, false, length, IfOk, IfSome, IfNone, IsTrue};
+ghost use Rattle.os_code.specs.Checking.{height_in};
 ghost use Rattle.os_code.specs.Effects as effects;
 ghost use Rattle.os_code.specs.IsValid.{HasRegions, HasTargets, HasHeights, Reaches};
 ghost use Rattle.os_code.specs.Parts.{instr_at, unit_at, region_end, is_within};
-ghost use Rattle.os_object_validity.specs.Tables.{AreEnds, IsExplored, IsEntry, IsKept, FitsStack, height_in, unknown};
+ghost use Rattle.os_object_validity.specs.Tables.{AreEnds, IsExplored, IsEntry, IsKept, FitsStack, unknown};
 
 use crate::effects::{goes_on, jump_of, operands_of, pushes};
 use crate::places::Region;
