@@ -1,10 +1,11 @@
 -- The positions of the next activations, worked out apart from the layout that they come behind.
-use Rattle.std.specs.Prelude.{ℕ, ◌+◌, ◌^◌, ◌<◌, All, List, [], ◌∷◌, ◌++◌, length, slice_index, slice_index_or, slice_set, if◌then◌else◌}
+use Rattle.std.specs.Prelude.{ℕ, ◌+◌, ◌^◌, ◌<◌, All, List, [], ◌∷◌, ◌++◌, length, slice_index_or, slice_set, if◌then◌else◌}
 use Rattle.flow_core_laws.specs.declared.activation.Activation.{Activation}
 use Rattle.flow_core_laws.specs.declared.claim.Claim.{Claim}
 use Rattle.stream_match_layouts.specs.Layout.{IsLayoutOf}
 use Rattle.stream_match_layouts.specs.declared.layout.Layout.{Layout}
 use Rattle.stream_match_layouts.specs.declared.span.Span.{Span}
+use Rattle.epoch_run_shares.specs.Cursors.{moved_by, span_by}
 use Rattle.epoch_run.specs.declared.next_spans.NextSpans.{NextSpans}
 
 -- the writers of the streams with one more span, which has a number
@@ -23,8 +24,8 @@ joined layout next = record {
   spans = layout.spans ++ next.spans;
   starts = layout.starts ++ next.starts;
   writers = with_writers layout.writers (length layout.spans) next.spans;
-  reads = next.reads;
-  writes = next.writes;
+  reads = next.cursors.reads;
+  writes = next.cursors.writes;
   input_len = layout.input_len;
 }
 
@@ -37,31 +38,10 @@ pub record FitBehind (layout : Layout) (next : NextSpans) : Type 0 where
   pub few : length layout.spans + length next.spans < 2 ^ 32
   pub exist : All (λ (s : Span). s.stream < length layout.writers) next.spans
 
--- the cursors that a claim moves are there, and don't pass the end of their type
-pub record HasCursors (next : NextSpans) (claim : Claim) : Type 0 where
-  pub read_cursor_exists : claim.stream < length next.reads
-  pub write_cursor_exists : claim.stream < length next.writes
-  pub read_cursor_fits : slice_index next.reads claim.stream + (claim.skip + claim.burst) < 2 ^ 62
-  pub write_cursor_fits : slice_index next.writes claim.stream + claim.horizon < 2 ^ 62
-
--- where a claim begins by the cursors
-abbrev pub first_of : NextSpans → Claim → ℕ
-first_of next claim =
-    if claim.write then slice_index next.writes claim.stream else slice_index next.reads claim.stream + claim.skip
-
 -- the spans and cursors with one more claim
 abbrev pub with_next : NextSpans → ℕ → Claim → ℕ → NextSpans
 with_next next frame claim offset = record {
-  spans =
-      next.spans ++ record {
-        frame = frame;
-        stream = claim.stream;
-        write = claim.write;
-        first = first_of next claim;
-        count = claim.horizon;
-        offset = offset;
-      } ∷ [];
+  spans = next.spans ++ span_by next.cursors frame claim offset ∷ [];
   starts = next.starts;
-  reads = if claim.write then next.reads else slice_set next.reads claim.stream (first_of next claim + claim.burst);
-  writes = if claim.write then slice_set next.writes claim.stream (first_of next claim + claim.horizon) else next.writes;
+  cursors = moved_by next.cursors claim;
 }

@@ -1,10 +1,12 @@
-ghost use Rattle.std.specs.Prelude.{◌≡◌, ◌∷◌, ◌++◌, ◌+◌, ◌^◌, ◌<◌, [], All, IfOk, List, OnOk, length, slice_set};
+ghost use Rattle.std.specs.Prelude.{◌≡◌, ◌∷◌, ◌++◌, ◌+◌, ◌^◌, ◌<◌, [], All, IfOk, List, OnOk, length};
 ghost use Rattle.flow_core_laws.specs.declared.activation.Activation.{Activation};
 ghost use Rattle.stream_match_layouts.specs.Layout.{IsLayoutOf, TakesMore};
 ghost use Rattle.stream_match_layouts.specs.declared.layout.Layout.{Layout};
 ghost use Rattle.stream_match_layouts.specs.declared.span.Span.{Span};
-ghost use Rattle.epoch_run.specs.NextSpans.{FitBehind, HasCursors, joined, with_next, with_writer, with_writers};
+ghost use Rattle.epoch_run_shares.specs.Cursors.{HasCursors};
+ghost use Rattle.epoch_run.specs.NextSpans.{FitBehind, joined, with_next, with_writer, with_writers};
 
+use epoch_run_shares::Cursors;
 use flow_core_laws::{Activation, Claim};
 use os_io::{List, Memory};
 use std::alloc::Global;
@@ -18,10 +20,8 @@ pub(crate) struct NextSpans {
     pub spans: List<Span>,
     /// Where the spans of each activation end, counted from the layout's first span on.
     pub starts: List<u32>,
-    /// The read cursor of each stream behind these activations.
-    pub reads: List<u64>,
-    /// The write cursor of each stream behind them.
-    pub writes: List<u64>,
+    /// Where the streams stand behind these activations.
+    pub cursors: Cursors,
 }
 
 impl NextSpans {
@@ -36,8 +36,10 @@ impl NextSpans {
         let mut next = NextSpans {
             spans: List::new(alloc),
             starts: List::new(alloc),
-            reads: List::from_slice(alloc, layout.reads.as_slice())?,
-            writes: List::from_slice(alloc, layout.writes.as_slice())?,
+            cursors: Cursors {
+                reads: List::from_slice(alloc, layout.reads.as_slice())?,
+                writes: List::from_slice(alloc, layout.writes.as_slice())?,
+            },
         };
         next.spans.reserve(activations.saturating_mul(2))?;
         next.starts.reserve(activations)?;
@@ -85,27 +87,11 @@ impl NextSpans {
 
     /// Adds a claim of an activation, where its windows before this one take so many inputs or outputs.
     fn take(&mut self, frame: u16, claim: &Claim, offset: u32) -> Result<(), Memory>
-        requires { HasCursors self.old claim.now }
+        requires { HasCursors self.old.cursors claim.now }
         ensures { OnOk result (self.new ≡ with_next self.old frame claim.now offset) }
     {
-        let stream = claim.stream as usize;
-        let first = if claim.write {
-            let first = self.writes.as_slice()[stream];
-            set(&mut self.writes, stream, first + u64::from(claim.horizon));
-            first
-        } else {
-            let first = self.reads.as_slice()[stream] + claim.skip;
-            set(&mut self.reads, stream, first + u64::from(claim.burst));
-            first
-        };
-        self.spans.push(Span {
-            first,
-            count: claim.horizon,
-            offset,
-            stream: claim.stream,
-            frame,
-            write: claim.write,
-        })?;
+        let span = self.cursors.take(frame, claim, offset);
+        self.spans.push(span)?;
         Ok(())
     }
 
@@ -117,8 +103,7 @@ impl NextSpans {
         let NextSpans {
             spans,
             starts,
-            reads,
-            writes,
+            cursors: Cursors { reads, writes },
         } = self;
         let first = layout.spans.len() as u32;
         add_writers(&mut layout.writers, first, spans.as_slice())?;
@@ -128,14 +113,6 @@ impl NextSpans {
         layout.writes = writes;
         Ok(())
     }
-}
-
-/// Sets a cursor.
-fn set(cursors: &mut List<u64>, stream: usize, cursor: u64)
-    requires { stream < length cursors.old }
-    ensures { cursors.new ≡ slice_set cursors.old stream cursor }
-{
-    cursors.as_mut_slice()[stream] = cursor;
 }
 
 /// Puts copies of items behind those of a list.

@@ -98,7 +98,7 @@ module _ (code : Code) (x : Activation) (positions : Positions) (apart : Apart) 
 
   -- the share has begun anew behind it
   pub has_begun : (now : Positions) → ((before : List Activation) → HavePassed code.streams before positions → HavePassed code.streams (before ++ x ∷ []) now)
-      → (input : List ℕ) (budget : ℕ) (writes : List ℕ) (after : Apart) → writes ≡ now.writes → IsReady code after.order → after.first ≡ now.count → after.order.ends ≡ []
+      → (input : List ℕ) (budget : ℕ) (writes : List ℕ) (after : Apart) → writes ≡ now.cursors.writes → IsReady code after.order → after.first ≡ now.count → after.order.ends ≡ []
       → ((all before : List Activation) (bytes : List ℕ) (turns : ℕ) → length before ≡ now.count → writes ≡ map (written_count before) (range_with_len 0 code.streams)
       → StandsApart (parts_of code) all now.count before bytes turns after.order)
       → HaveRun code (x ∷ []) input budget positions apart after

@@ -24,7 +24,9 @@ use Rattle.stream_match_layouts.proofs.Appending.{claims_of-push, take_next}
 use Rattle.stream_match_layouts.proofs.Bounds.{filtered-le, has_room, lawful-front}
 use Rattle.stream_match_layouts.proofs.Pushing.{first_by-is, is_of_push, length-writers_after}
 use Rattle.stream_match_layouts.proofs.Windows.{alike, claims_in-append, first_windows, first_windows-more}
-use Rattle.epoch_run_shares.specs.Positions.{HasCursors, HasTaken, HavePassed, PassMore, first_of}
+use Rattle.epoch_run_shares.specs.Cursors.{HasCursors, first_of}
+use Rattle.epoch_run_shares.specs.Positions.{HasTaken, HavePassed, PassMore}
+use Rattle.epoch_run_shares.specs.declared.cursors.Cursors.{Cursors}
 use Rattle.epoch_run_shares.specs.declared.positions.Positions.{Positions}
 
 -- ---- lists
@@ -101,14 +103,14 @@ module _ (streams : ℕ) (cs : List Claim) (reads writes : List ℕ) (reads_are 
 
 -- Behind earlier claims, so many of an activation were added: the cursors stand behind them, and their spans are there.
 pub record HaveAdded (streams frame : ℕ) (earlier claims : List Claim) (k : ℕ) (now : Positions) : Type 0 where
-  pub reads : now.reads ≡ map (λ s. read_cursor s (earlier ++ take k claims)) (range_with_len 0 streams)
-  pub writes : now.writes ≡ map (λ s. write_cursor s (earlier ++ take k claims)) (range_with_len 0 streams)
+  pub reads : now.cursors.reads ≡ map (λ s. read_cursor s (earlier ++ take k claims)) (range_with_len 0 streams)
+  pub writes : now.cursors.writes ≡ map (λ s. write_cursor s (earlier ++ take k claims)) (range_with_len 0 streams)
   pub spans : now.spans.items ≡ map span_of (first_windows frame earlier claims k)
 
-pub length-reads : (streams : ℕ) (passed : List Activation) (positions : Positions) → HavePassed streams passed positions → length positions.reads ≡ streams
+pub length-reads : (streams : ℕ) (passed : List Activation) (positions : Positions) → HavePassed streams passed positions → length positions.cursors.reads ≡ streams
 length-reads streams passed positions h = ap length h.reads ∙ length-map-range_with_len (λ s. read_cursor s (claims_of passed)) 0 streams
 
-pub length-writes : (streams : ℕ) (passed : List Activation) (positions : Positions) → HavePassed streams passed positions → length positions.writes ≡ streams
+pub length-writes : (streams : ℕ) (passed : List Activation) (positions : Positions) → HavePassed streams passed positions → length positions.cursors.writes ≡ streams
 length-writes streams passed positions h = ap length h.writes ∙ length-map-range_with_len (λ s. write_cursor s (claims_of passed)) 0 streams
 
 module _ (streams frame : ℕ) (earlier claims : List Claim) (k : ℕ) (now : Positions) (added : HaveAdded streams frame earlier claims k now) (claim : Claim) (is : claim ≡ claim_at claims k)
@@ -122,14 +124,14 @@ module _ (streams frame : ℕ) (earlier claims : List Claim) (k : ℕ) (now : Po
   -- one more of them
   pub added_next : (offset : ℕ) (after : Positions) → offset ≡ alike claim.write (take k claims) → HasTaken now frame claim offset after → HaveAdded streams frame earlier claims (k + 1) after
   added_next offset after offset_is taken =
-      let begin : first_of now claim ≡ first_position so_far claim = begins streams so_far now.reads now.writes added.reads added.writes claim exists in
-      let span : record { frame = frame; stream = claim.stream; write = claim.write; first = first_of now claim; count = claim.horizon; offset = offset } ≡ span_of (window_of frame earlier claims k) =
+      let begin : first_of now.cursors claim ≡ first_position so_far claim = begins streams so_far now.cursors.reads now.cursors.writes added.reads added.writes claim exists in
+      let span : record { frame = frame; stream = claim.stream; write = claim.write; first = first_of now.cursors claim; count = claim.horizon; offset = offset } ≡ span_of (window_of frame earlier claims k) =
       ap (λ n. record { frame = frame; stream = claim.stream; write = claim.write; first = n; count = claim.horizon; offset = offset }) begin
       ∙ ap (λ n. record { frame = frame; stream = claim.stream; write = claim.write; first = first_position so_far claim; count = claim.horizon; offset = n }) offset_is
       ∙ ap (λ (c : Claim). record { frame = frame; stream = c.stream; write = c.write; first = first_position so_far c; count = c.horizon; offset = offset_after (take k claims) c }) is in
       record {
-        reads = taken.reads ∙ reads_move streams so_far now.reads now.writes added.reads added.writes claim exists ∙ ap (λ cs. map (λ s. read_cursor s cs) (range_with_len 0 streams)) one_more;
-        writes = taken.writes ∙ writes_move streams so_far now.reads now.writes added.reads added.writes claim exists ∙ ap (λ cs. map (λ s. write_cursor s cs) (range_with_len 0 streams)) one_more;
+        reads = ap (λ (c : Cursors). c.reads) taken.cursors ∙ reads_move streams so_far now.cursors.reads now.cursors.writes added.reads added.writes claim exists ∙ ap (λ cs. map (λ s. read_cursor s cs) (range_with_len 0 streams)) one_more;
+        writes = ap (λ (c : Cursors). c.writes) taken.cursors ∙ writes_move streams so_far now.cursors.reads now.cursors.writes added.reads added.writes claim exists ∙ ap (λ cs. map (λ s. write_cursor s cs) (range_with_len 0 streams)) one_more;
         spans =
             taken.spans ∙ ap (λ (s : Span). now.spans.items ++ s ∷ []) span ∙ ap (λ (ss : List Span). ss ++ span_of (window_of frame earlier claims k) ∷ []) added.spans
             ∙ sym (map-append span_of (first_windows frame earlier claims k) (window_of frame earlier claims k ∷ []))
@@ -138,9 +140,9 @@ module _ (streams frame : ℕ) (earlier claims : List Claim) (k : ℕ) (now : Po
 
   -- there is room for it
   pub has_cursors : (rest : List Claim) → All (IsLawfulClaim streams) (so_far ++ claim ∷ rest) → sum_by (λ (c : Claim). c.horizon) (so_far ++ claim ∷ rest) ≤ 4194304
-      → sum_by (λ (c : Claim). c.skip + c.burst) (so_far ++ claim ∷ rest) < 2 ^ 62 → HasCursors now claim
+      → sum_by (λ (c : Claim). c.skip + c.burst) (so_far ++ claim ∷ rest) < 2 ^ 62 → HasCursors now.cursors claim
   has_cursors rest lawful positions cursors =
-      let r = room streams so_far now.reads now.writes added.reads added.writes claim exists rest lawful positions cursors in
+      let r = room streams so_far now.cursors.reads now.cursors.writes added.reads added.writes claim exists rest lawful positions cursors in
       let e = r.stream_exists in
       let m = length-map-range_with_len (writers_of (map window_by so_far)) 0 streams in
       record {
@@ -198,14 +200,14 @@ module _ (positions : Positions) (x : Activation) (more : PassMore positions (x 
       at : (cs : List Claim) (c : Claim) (rest : List Claim) → All (IsLawfulClaim more.streams) (cs ++ c ∷ rest) → IsLawfulClaim more.streams c
       at cs c rest h = All-head (IsLawfulClaim more.streams) c rest (All-back (IsLawfulClaim more.streams) cs (c ∷ rest) h)
 
-  pub cursors_at : (k : ℕ) → (lt : k < length cl) → (frame : ℕ) (now : Positions) → HaveAdded more.streams frame earlier_ones cl k now → HasCursors now (claim_at cl k)
+  pub cursors_at : (k : ℕ) → (lt : k < length cl) → (frame : ℕ) (now : Positions) → HaveAdded more.streams frame earlier_ones cl k now → HasCursors now.cursors (claim_at cl k)
   cursors_at k lt frame now added =
       has_cursors more.streams frame earlier_ones cl k now added (claim_at cl k) refl lt (stream_exists k lt) (drop (suc k) cl) (lawful_all k lt)
       (subst (λ cs. sum_by (λ (c : Claim). c.horizon) cs ≤ 4194304) (whole k lt) more.lawful.positions_are_few)
       (subst (λ cs. sum_by (λ (c : Claim). c.skip + c.burst) cs < 2 ^ 62) (whole k lt) more.lawful.cursors_are_small)
 
 -- before the first claim
-pub none_added : (streams frame : ℕ) (passed : List Activation) (claims : List Claim) (positions now : Positions) → HavePassed streams passed positions → now.reads ≡ positions.reads → now.writes ≡ positions.writes → now.spans.items ≡ []
+pub none_added : (streams frame : ℕ) (passed : List Activation) (claims : List Claim) (positions now : Positions) → HavePassed streams passed positions → now.cursors.reads ≡ positions.cursors.reads → now.cursors.writes ≡ positions.cursors.writes → now.spans.items ≡ []
     → HaveAdded streams frame (claims_of passed) claims 0 now
 none_added streams frame passed claims positions now h reads writes spans = record {
   reads = reads ∙ h.reads ∙ ap (λ cs. map (λ s. read_cursor s cs) (range_with_len 0 streams)) (sym (none (claims_of passed)));
@@ -235,7 +237,7 @@ same_each : {X : Type 0} (a n : ℕ) (x : X) → replicate n x ≡ map (λ k. x)
 same_each a zero x = refl
 same_each a (suc n) x = ap (λ xs. x ∷ xs) (same_each (a + 1) n x)
 
-pub none_passed : (streams : ℕ) (positions : Positions) → positions.reads ≡ replicate streams 0 → positions.writes ≡ replicate streams 0 → positions.count ≡ 0 → HavePassed streams [] positions
+pub none_passed : (streams : ℕ) (positions : Positions) → positions.cursors.reads ≡ replicate streams 0 → positions.cursors.writes ≡ replicate streams 0 → positions.count ≡ 0 → HavePassed streams [] positions
 none_passed streams positions reads writes count = record { reads = reads ∙ same_each 0 streams 0; writes = writes ∙ same_each 0 streams 0; count = count }
 
 pub pass_next : (positions now : Positions) (acts : List Activation) (k : ℕ) (x : Activation) → PassMore positions acts → k < length acts → x ≡ get_or acts k x

@@ -170,7 +170,7 @@ module _ (code : Code) (input : List ℕ) (budget : ℕ) where
 
   -- ---- the beginning
 
-  pub begins : (walk : Walk) → walk.control.code ≡ parts_of code → HasWalked walk → (apart : Apart) (writes : List ℕ) → writes ≡ walk.positions.writes → IsReady code apart.order → apart.first ≡ walk.positions.count
+  pub begins : (walk : Walk) → walk.control.code ≡ parts_of code → HasWalked walk → (apart : Apart) (writes : List ℕ) → writes ≡ walk.positions.cursors.writes → IsReady code apart.order → apart.first ≡ walk.positions.count
       → apart.order.ends ≡ []
       → ((all earlier : List Activation) (bytes : List ℕ) (turns : ℕ) → length earlier ≡ walk.positions.count → writes ≡ map (written_count earlier) (range_with_len 0 code.streams)
       → StandsApart (parts_of code) all walk.positions.count earlier bytes turns apart.order)

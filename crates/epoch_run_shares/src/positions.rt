@@ -1,11 +1,13 @@
 //! The positions behind activations that were passed.
 
-ghost use Rattle.std.specs.Prelude.{◌≡◌, ◌∷◌, ◌++◌, ◌<◌, ℕ, [], IfOk, List, OnOk, length, map, slice_set};
+ghost use Rattle.std.specs.Prelude.{◌≡◌, ◌∷◌, ◌++◌, ℕ, [], IfOk, List, OnOk, length, map};
 ghost use Rattle.flow_core_laws.specs.Window.{windows_of};
 ghost use Rattle.flow_core_laws.specs.declared.activation.Activation.{Activation};
 ghost use Rattle.stream_match_layouts.specs.Layout.{span_of};
-ghost use Rattle.epoch_run_shares.specs.Positions.{HasCursors, HasTaken, HavePassed, PassMore};
+ghost use Rattle.epoch_run_shares.specs.Cursors.{HasCursors};
+ghost use Rattle.epoch_run_shares.specs.Positions.{HasTaken, HavePassed, PassMore};
 
+use crate::cursors::Cursors;
 use flow_core_laws::{Activation, Claim};
 use os_io::{List, Memory};
 use std::alloc::Global;
@@ -16,10 +18,8 @@ use stream_match_layouts::Span;
 pub(crate) struct Positions {
     /// A span for each claim of the activation that was passed last.
     pub spans: Vec<Span>,
-    /// The read cursor of each stream.
-    pub reads: List<u64>,
-    /// The write cursor of each stream.
-    pub writes: List<u64>,
+    /// Where the streams stand behind the activations.
+    pub cursors: Cursors,
     /// How many activations were passed.
     pub count: u32,
 }
@@ -31,13 +31,15 @@ impl Positions {
     {
         let mut positions = Positions {
             spans: Vec::new(alloc),
-            reads: List::with_capacity(alloc, streams as usize)?,
-            writes: List::with_capacity(alloc, streams as usize)?,
+            cursors: Cursors {
+                reads: List::with_capacity(alloc, streams as usize)?,
+                writes: List::with_capacity(alloc, streams as usize)?,
+            },
             count: 0,
         };
         for _ in 0..streams {
-            positions.reads.push(0)?;
-            positions.writes.push(0)?;
+            positions.cursors.reads.push(0)?;
+            positions.cursors.writes.push(0)?;
         }
         Ok(positions)
     }
@@ -82,35 +84,11 @@ impl Positions {
 
     /// Adds a claim of an activation, where its windows before this one take so many inputs or outputs.
     fn take(&mut self, frame: u16, claim: &Claim, offset: u32) -> Result<(), Memory>
-        requires { HasCursors self.old claim.now }
+        requires { HasCursors self.old.cursors claim.now }
         ensures { OnOk result (HasTaken self.old frame claim.now offset self.new) }
     {
-        let stream = claim.stream as usize;
-        let first = if claim.write {
-            let first = self.writes.as_slice()[stream];
-            set(&mut self.writes, stream, first + u64::from(claim.horizon));
-            first
-        } else {
-            let first = self.reads.as_slice()[stream] + claim.skip;
-            set(&mut self.reads, stream, first + u64::from(claim.burst));
-            first
-        };
-        self.spans.push(Span {
-            first,
-            count: claim.horizon,
-            offset,
-            stream: claim.stream,
-            frame,
-            write: claim.write,
-        })?;
+        let span = self.cursors.take(frame, claim, offset);
+        self.spans.push(span)?;
         Ok(())
     }
-}
-
-/// Sets a cursor.
-fn set(cursors: &mut List<u64>, stream: usize, cursor: u64)
-    requires { stream < length cursors.old }
-    ensures { cursors.new ≡ slice_set cursors.old stream cursor }
-{
-    cursors.as_mut_slice()[stream] = cursor;
 }

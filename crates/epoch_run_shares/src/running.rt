@@ -70,6 +70,11 @@ fn run_next(
     if positions.count > latest {
         return Ok(false);
     }
-    *apart = Apart::behind(alloc, code, positions.count, positions.writes.as_slice())?;
+    *apart = Apart::behind(
+        alloc,
+        code,
+        positions.count,
+        positions.cursors.writes.as_slice(),
+    )?;
     Ok(true)
 }

@@ -42,7 +42,7 @@ pub fn run_share(
         alloc,
         code,
         walk.positions.count,
-        walk.positions.writes.as_slice(),
+        walk.positions.cursors.writes.as_slice(),
     )?;
     let latest = from.saturating_add(LATER);
     run_stretches(

@@ -5,7 +5,8 @@ use Rattle.flow_core_laws.specs.declared.claim.Claim.{Claim}
 use Rattle.flow_core_laws.specs.Window.{claim_at, claims_of}
 use Rattle.stream_match_layouts.proofs.Appending.{alike-more}
 use Rattle.stream_match_layouts.proofs.Windows.{alike}
-use Rattle.epoch_run_shares.specs.Positions.{HasCursors, HavePassed}
+use Rattle.epoch_run_shares.specs.Cursors.{HasCursors}
+use Rattle.epoch_run_shares.specs.Positions.{HavePassed}
 use Rattle.epoch_run_shares.specs.declared.positions.Positions.{Positions}
 use Rattle.epoch_run_shares.proofs.Passing.{HaveAdded, added_next, alike_fits, all_added, cursors_at, none_added, same_streams, spans_added, stream_exists}
 use Rattle.epoch_run_shares.proofs.positions.Positions.pass.Goals as goal
@@ -24,7 +25,7 @@ take-requires c =
     let items = c.as_slice-claim-items.ensures in
     let k = c.loop-claim.claim-index in
     let lt : k < length c.args.activation.now.claims = subst (λ xs. k < length xs) items c.loop-claim-test.true in
-    subst (λ xs. HasCursors c.loop-claim.self (claim_at xs k)) (sym items)
+    subst (λ xs. HasCursors c.loop-claim.self.cursors (claim_at xs k)) (sym items)
     (cursors_at c.args.self.now c.args.activation.now c.requires k lt c.args.self.now.count c.loop-claim.self (c.loop-claim.invariant.added c.requires.streams c.requires.passed c.requires.have_passed))
 
 pub take-requires-else-claim : goal.take-requires-else-claim
@@ -32,7 +33,7 @@ take-requires-else-claim c =
     let items = c.as_slice-claim-items.ensures in
     let k = c.loop-claim.claim-index in
     let lt : k < length c.args.activation.now.claims = subst (λ xs. k < length xs) items c.loop-claim-test.true in
-    subst (λ xs. HasCursors c.loop-claim.self (claim_at xs k)) (sym items)
+    subst (λ xs. HasCursors c.loop-claim.self.cursors (claim_at xs k)) (sym items)
     (cursors_at c.args.self.now c.args.activation.now c.requires k lt c.args.self.now.count c.loop-claim.self (c.loop-claim.invariant.added c.requires.streams c.requires.passed c.requires.have_passed))
 
 pub overflow_add-outputs : goal.overflow_add-outputs
