@@ -9,6 +9,10 @@ use Rattle.osview_steps.specs.declared.runs.Taken.{Taken}
 use Rattle.osview_steps.specs.declared.runs.TaskRun.{TaskRun}
 use Rattle.osview_steps.specs.declared.tally.Tally.{Tally}
 
+-- one text behind another
+pub told_behind : (old a b : List ℕ) {mid new : List ℕ} → mid ≡ old ++ a → new ≡ mid ++ b → new ≡ old ++ (a ++ b)
+told_behind old a b first last = last ∙ ap (λ x. x ++ b) first ∙ append_assoc old a b
+
 pub line_is : (lines : List ℕ) (runs : List TaskRun) (main : Taken) (t : ℕ) (tally : Tally) (all : ℕ) → IsTallyOf t runs tally → all ≡ run_steps runs main
     → tally_line (get_or lines t 0) tally all ≡ task_line lines runs main t
 line_is lines runs main t tally all is all_is =

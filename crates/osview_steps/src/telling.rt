@@ -18,10 +18,10 @@ use std::alloc::Global;
 fn add_counts(told: &mut Text, line: u32, activations: u32, ran: u32) -> Result<(), Memory>
     ensures { OnOk result (told.new ≡ told.old ++ counts_text line activations ran) }
 {
-    told.field(b"line ", u64::from(line))?;
-    told.field(b": ", u64::from(activations))?;
-    told.add(activation_word(u64::from(activations)))?;
-    told.field(b", ", u64::from(ran))?;
+    told.field(b"line ", line as u64)?;
+    told.field(b": ", activations as u64)?;
+    told.add(activation_word(activations as u64))?;
+    told.field(b", ", ran as u64)?;
     told.add(b" of them ran")
 }
 
