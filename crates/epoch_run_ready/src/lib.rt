@@ -16,7 +16,8 @@ mod marking;
 mod missing;
 mod newest;
 mod ready;
+mod unreached;
 mod waiting;
 
 pub use newest::newest_wait;
-pub use ready::ready_frames;
+pub use ready::{ready_frames, ready_since};
