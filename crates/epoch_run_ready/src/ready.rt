@@ -103,17 +103,8 @@ fn others_than(
     Ok(frames)
 }
 
-/// Whether there is a mark.
-fn has_mark(waits: &[bool]) -> bool {
-    for mark in waits {
-        if *mark {
-            return true;
-        }
-    }
-    false
-}
-
-/// The same, where of the first so many readers each may read behind all that is written, by the positions there.
+/// Those of the readers that have no mark and don't wait, where of each stream a position is known whose element can't come, and what reads
+/// such a one is among the first so many readers.
 fn unmarked(
     alloc: Global,
     layout: &Layout,
@@ -132,4 +123,14 @@ fn unmarked(
     mark_back(layout, waits, missing, readers, count);
     let frames = others(alloc, layout, waits, missing, readers)?;
     Ok(frames)
+}
+
+/// Whether there is a mark.
+fn has_mark(waits: &[bool]) -> bool {
+    for mark in waits {
+        if *mark {
+            return true;
+        }
+    }
+    false
 }
