@@ -22,7 +22,7 @@ use crate::plan::run_plan;
 use crate::unended::with_new;
 use epoch_run_bodies::CountedBodies;
 use epoch_run_bodies::laws::{bodies_serve, later_activations_change_nothing};
-use epoch_run_ready::{newest_wait, ready_frames};
+use epoch_run_ready::{newest_wait, ready_frames, ready_since};
 use flow_core_epochs::FrameBodies;
 use flow_core_epochs::laws::run_in_epochs;
 use flow_core_laws::{Bodies, Ends, Plan};
@@ -112,7 +112,8 @@ fn open_activations(alloc: Global, layout: &Layout, held: &mut Held) -> Result<L
     Ok(readers)
 }
 
-/// The frames of an epoch: of the activations that have no end yet those that don't wait, and none where all new ones wait.
+/// The frames of an epoch: of the activations that have no end yet those that don't wait, and none where all new ones wait. Those of earlier
+/// epochs that nothing new can reach wait as they did, also for one another in a circle.
 fn frames_of(
     alloc: Global,
     bodies: &OpenBodies<'_>,
@@ -131,7 +132,7 @@ fn frames_of(
     if wait {
         return Ok(List::new(alloc));
     }
-    let frames = ready_frames(alloc, layout, readers)?;
+    let frames = ready_since(alloc, layout, readers, held.ends.ends.len())?;
     Ok(frames)
 }
 

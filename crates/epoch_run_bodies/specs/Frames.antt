@@ -17,8 +17,7 @@ frame_outcome code activations budget frame inputs =
 
 -- What activations come to over an input: the data-flow meaning of their streams, where the machine runs the task of each.
 abbrev pub code_ends : Parts → List Activation → (input : List ℕ) → (budget : ℕ) → Ends
-code_ends code activations input budget =
-    stream_ends activations input (stream_meaning activations input (frame_outcome code activations budget))
+code_ends code activations input budget = stream_ends activations input (stream_meaning activations input (frame_outcome code activations budget))
 
 -- A frame is taken with so many inputs and outputs where its activation is there, fits the code and has as many.
 pub record TakesFrame (code : Parts) (activations : List Activation) (budget frame inputs outputs : ℕ) : Type 0 where

@@ -1,5 +1,5 @@
 -- The newest activations, where all of them wait.
-use Rattle.std.proofs.Common.{◌≡◌, ℕ, zero, suc, ◌+◌, ◌-◌, ◌<◌, ◌≤◌, List, [], ◌++◌, Option, Some, None, Bool, true, false, inl, inr, length, get_or, replicate, refl, ◌∙◌, arith}
+use Rattle.std.proofs.Common.{◌≡◌, ℕ, zero, suc, ◌+◌, ◌-◌, ◌<◌, ◌≤◌, List, [], ◌++◌, Option, Some, None, Bool, true, false, inl, inr, length, get_or, replicate, refl, arith}
 use Rattle.std.specs.Prelude.{slice_get}
 use Rattle.std.proofs.lemmas.Bool.{cases_lt}
 use Rattle.std.proofs.lemmas.List.{get_or_past, length-append, length-replicate}
@@ -15,7 +15,7 @@ use Rattle.stream_match_layouts.specs.Spans.{frame_count, spans_of}
 use Rattle.stream_match_layouts.specs.declared.layout.Layout.{Layout}
 use Rattle.stream_match_layouts.specs.declared.span.Span.{Span}
 use Rattle.epoch_run_ready.specs.Newest.{WaitFrom, marked_from}
-use Rattle.epoch_run_ready.specs.Waiting.{AreWaiting, HasWaitingSpan}
+use Rattle.epoch_run_ready.specs.Waiting.{HasWaitingSpan}
 use Rattle.epoch_run_ready.proofs.Stuck.{reads_it}
 
 -- marks behind none
@@ -58,7 +58,7 @@ pub wait_all : (layout : Layout) (first : ℕ) → ((a : ℕ) (s : Span) → a <
     → ((a : ℕ) → first ≤ a → a < frame_count layout → HasWaitingSpan layout (marked_from first (frame_count layout)) (spans_of layout a))
     → (activations : List Activation) (input : List ℕ) (ends : List (Option TaskEnd)) → IsLayoutOf layout activations → length input ≡ layout.input_len → length ends ≡ first → WaitFrom activations input ends first
 wait_all layout first exist spans activations input ends of over many a le lt =
-    let (p, reads, cannot) = reads_it layout activations of input over ends (open_in ends count) refl marks are a lt (λ s h. exist a s (omega (arith, is)) h) (spans a le (omega (arith, is))) in
+    let (p, reads, cannot) = reads_it layout activations of input over ends (open_in ends count) refl marks open_one a lt (λ s h. exist a s (omega (arith, is)) h) (spans a le (omega (arith, is))) in
     (p, reads, none_runs ends _ _ cannot)
   where
     count : ℕ
@@ -77,10 +77,3 @@ wait_all layout first exist spans activations input ends of over many a le lt =
     open_one b m =
         let (from, to) = is_marked first (frame_count layout) b few m in
         open_all ends (frame_count layout) b to (get_or_past ends b None (omega (arith, many)))
-
-    are : AreWaiting layout (open_in ends (frame_count layout)) (marked_from first (frame_count layout))
-    are = record {
-      one_each = length-append (replicate first false) (replicate (frame_count layout - first) true) ∙ (omega (arith, few, length-replicate first false, length-replicate (frame_count layout - first) true));
-      are_readers = open_one;
-      wait = λ b m. let (from, to) = is_marked first (frame_count layout) b few m in spans b from to;
-    }

@@ -1,7 +1,10 @@
 pub mod AllSpans
 pub mod AllWaiting
 pub mod FirstMissing
+pub mod Judged
+pub mod LeftOut
 pub mod Marks
 pub mod Passing
+pub mod Reached
 pub mod StillWaiting
 pub mod Stuck

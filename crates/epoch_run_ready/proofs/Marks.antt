@@ -3,13 +3,13 @@ use Rattle.std.proofs.Common.{◌≡◌, ◌≢◌, ℕ, zero, suc, ◌<◌, Lis
 use Rattle.std.specs.Prelude.{slice_get}
 use Rattle.std.proofs.lemmas.Bool.{cases_eq}
 use Rattle.std.proofs.lemmas.List.{get_or-set_same, get_or-set_other, length-set}
-use Rattle.stream_match_layouts.specs.Spans.{frame_count, spans_of}
+use Rattle.stream_match_layouts.specs.Spans.{spans_of}
 use Rattle.stream_match_layouts.specs.declared.layout.Layout.{Layout}
 use Rattle.stream_match_layouts.specs.declared.span.Span.{Span}
-use Rattle.epoch_run_ready.specs.Waiting.{AreMissing, AreWaiting, CannotCome, behind, stuck, HasWaitingSpan, is_stuck}
+use Rattle.epoch_run_ready.specs.Waiting.{AreMarked, AreMissing, CannotCome, behind, stuck, HasWaitingSpan, IsWaiting, is_stuck}
 
 -- one list of marks has all that another has
-abbrev HasMarks : List Bool → List Bool → Type 0
+abbrev pub HasMarks : List Bool → List Bool → Type 0
 HasMarks waits more = (a : ℕ) → get_or waits a false ≡ true → get_or more a false ≡ true
 
 module _ (layout : Layout) (waits more : List Bool) (has : HasMarks waits more) where
@@ -28,7 +28,7 @@ module _ (layout : Layout) (waits more : List Bool) (has : HasMarks waits more) 
   }
 
 -- one more mark
-one_more : (waits : List Bool) (a : ℕ) → a < length waits → HasMarks waits (set waits a true)
+pub one_more : (waits : List Bool) (a : ℕ) → a < length waits → HasMarks waits (set waits a true)
 one_more waits a lt b m = elim (cases_eq b a) [
   | inl same ↦ ap (λ n. get_or (set waits a true) n false) same ∙ get_or-set_same waits a true false lt
   | inr other ↦ get_or-set_other waits a b true false other ∙ m
@@ -48,24 +48,41 @@ no_mark (suc n) zero = refl
 no_mark (suc n) (suc a) = no_mark n a
 
 module _ (layout : Layout) (readers : List ℕ) where
-  pub mark_more : (waits : List Bool) (n a : ℕ) → a < length waits → slice_get readers n ≡ Some a → HasWaitingSpan layout waits (spans_of layout a) → AreWaiting layout readers waits → AreWaiting layout readers (set waits a true)
-  mark_more waits n a lt reads found are = record {
-    one_each = length-set waits a true ∙ are.one_each;
-    are_readers = λ b m. is_reader b m (cases_eq b a);
-    wait = λ b m. has_more layout waits (set waits a true) (one_more waits a lt) (spans_of layout b) (waits_before b m (cases_eq b a));
+  waiting_more : (waits more : List Bool) → HasMarks waits more → (a : ℕ) → IsWaiting layout readers waits a → IsWaiting layout readers more a
+  waiting_more waits more has a w = record { number = w.number; is_reader = w.is_reader; waits_for = has_more layout waits more has (spans_of layout a) w.waits_for }
+
+  -- no mark more
+  pub mark_same : (waits : List Bool) → AreMarked layout readers waits waits
+  mark_same waits = record { as_many = refl; are_kept = λ a m. m; more_wait = λ a m. inl m }
+
+  -- one mark more
+  pub mark_more : (waits : List Bool) (n a : ℕ) → a < length waits → slice_get readers n ≡ Some a → HasWaitingSpan layout waits (spans_of layout a) → AreMarked layout readers waits (set waits a true)
+  mark_more waits n a lt reads found = record {
+    as_many = length-set waits a true;
+    are_kept = one_more waits a lt;
+    more_wait = λ b m. by b m (cases_eq b a);
   }
     where
-      is_reader : (b : ℕ) → get_or (set waits a true) b false ≡ true → (b ≡ a) ⊎ (b ≢ a) → (f : ℕ) × (slice_get readers f ≡ Some b)
-      is_reader b m (inl same) = (n, reads ∙ ap (λ (x : ℕ). Some x) (sym same))
-      is_reader b m (inr other) = are.are_readers b (sym (get_or-set_other waits a b true false other) ∙ m)
+      by : (b : ℕ) → get_or (set waits a true) b false ≡ true → (b ≡ a) ⊎ (b ≢ a) → (get_or waits b false ≡ true) ⊎ IsWaiting layout readers (set waits a true) b
+      by b m (inl same) = inr (record {
+        number = n;
+        is_reader = reads ∙ ap (λ (x : ℕ). Some x) (sym same);
+        waits_for = has_more layout waits (set waits a true) (one_more waits a lt) (spans_of layout b) (subst (λ n. HasWaitingSpan layout waits (spans_of layout n)) (sym same) found);
+      })
+      by b m (inr other) = inl (sym (get_or-set_other waits a b true false other) ∙ m)
 
-      waits_before : (b : ℕ) → get_or (set waits a true) b false ≡ true → (b ≡ a) ⊎ (b ≢ a) → HasWaitingSpan layout waits (spans_of layout b)
-      waits_before b m (inl same) = subst (λ n. HasWaitingSpan layout waits (spans_of layout n)) (sym same) found
-      waits_before b m (inr other) = are.wait b (sym (get_or-set_other waits a b true false other) ∙ m)
-
-  -- no marks at first
-  pub mark_none : (waits : List Bool) (n : ℕ) → waits ≡ replicate n false → length waits ≡ frame_count layout → AreWaiting layout readers waits
-  mark_none waits n is len = record { one_each = len; are_readers = λ a m. absurd (let z = none a in cc); wait = λ a m. absurd (let z = none a in cc) }
+  -- marks more, and then others
+  pub mark_both : (before between after : List Bool) → AreMarked layout readers before between → AreMarked layout readers between after → AreMarked layout readers before after
+  mark_both before between after one two = record {
+    as_many = two.as_many ∙ one.as_many;
+    are_kept = λ a m. two.are_kept a (one.are_kept a m);
+    more_wait = λ a m. by a (two.more_wait a m);
+  }
     where
-      none : (a : ℕ) → get_or waits a false ≡ false
-      none a = ap (λ ws. get_or ws a false) is ∙ no_mark n a
+      by_first : (a : ℕ) → (get_or before a false ≡ true) ⊎ IsWaiting layout readers between a → (get_or before a false ≡ true) ⊎ IsWaiting layout readers after a
+      by_first a (inl was) = inl was
+      by_first a (inr w) = inr (waiting_more between after two.are_kept a w)
+
+      by : (a : ℕ) → (get_or between a false ≡ true) ⊎ IsWaiting layout readers after a → (get_or before a false ≡ true) ⊎ IsWaiting layout readers after a
+      by a (inl was) = by_first a (one.more_wait a was)
+      by a (inr w) = inr w

@@ -34,7 +34,7 @@ use Rattle.stream_match_layouts.specs.Spans.{frame_count, spans_of}
 use Rattle.stream_match_layouts.specs.Writers.{HasWriters, span_at, writer_at, writers_on}
 use Rattle.stream_match_layouts.specs.declared.layout.Layout.{Layout}
 use Rattle.stream_match_layouts.specs.declared.span.Span.{Span}
-use Rattle.epoch_run_ready.specs.Waiting.{AreWaiting, CannotCome, behind, stuck, HasWaitingSpan, SpanWaits, is_stuck, written_until}
+use Rattle.epoch_run_ready.specs.Waiting.{CannotCome, behind, stuck, HasWaitingSpan, SpanWaits, is_stuck, written_until}
 
 -- numbers ascend
 abbrev Ascends : List ℕ → Type 0
@@ -82,7 +82,7 @@ open_readers_ascend ends count f g lt within =
     let readers = open_in ends count in
     open_ascend ends count f g (get_or readers f 0) (get_or readers g 0) lt (slice_get-get_or readers f 0 (omega arith)) (slice_get-get_or readers g 0 within)
 
-module _ (layout : Layout) (activations : List Activation) (of : IsLayoutOf layout activations) (input : List ℕ) (over : length input ≡ layout.input_len) (ends : List (Option TaskEnd)) (readers : List ℕ) (open_are : readers ≡ open_in ends (frame_count layout)) (waits : List Bool) (are : AreWaiting layout readers waits) where
+module _ (layout : Layout) (activations : List Activation) (of : IsLayoutOf layout activations) (input : List ℕ) (over : length input ≡ layout.input_len) (ends : List (Option TaskEnd)) (readers : List ℕ) (open_are : readers ≡ open_in ends (frame_count layout)) (waits : List Bool) (are_readers : (a : ℕ) → is_stuck waits a ≡ true → (f : ℕ) × (slice_get readers f ≡ Some a)) where
   abbrev test : ℕ → Bool
   test a = not (get_or waits a false)
 
@@ -90,7 +90,7 @@ module _ (layout : Layout) (activations : List Activation) (of : IsLayoutOf layo
   frames = filter (λ a. not (get_or waits a false)) (open_in ends (frame_count layout))
 
   -- what has a mark is no frame
-  not_frame : (a : ℕ) → get_or waits a false ≡ true → number_in frames a ≡ None
+  pub not_frame : (a : ℕ) → get_or waits a false ≡ true → number_in frames a ≡ None
   not_frame a m = by_number (number_in frames a) refl
     where
       by_number : (n : Option ℕ) → number_in frames a ≡ n → number_in frames a ≡ None
@@ -102,7 +102,7 @@ module _ (layout : Layout) (activations : List Activation) (of : IsLayoutOf layo
 
   stuck_fed : (a place : ℕ) → is_stuck waits a ≡ true → epoch.CannotCome ends frames (fed a place)
   stuck_fed a place m =
-      let (f, at) = are.are_readers a m in
+      let (f, at) = are_readers a m in
       left_out a place (open_each ends (frame_count layout) f a (subst (λ (xs : List ℕ). slice_get xs f ≡ Some a) open_are at)).1 (not_frame a m)
 
   -- nobody writes behind all that is written
@@ -164,8 +164,9 @@ module _ (layout : Layout) (activations : List Activation) (of : IsLayoutOf layo
       let read = in_flat_map places_of (filter (λ (w : Window). not w.claim.write) (windows_of activations a)) w p (in_filter (λ (w : Window). not w.claim.write) (windows_of activations a) w w_in reads) at in
       (p, contained (input_places activations a) p read, cannot_come p (subst (λ n. n < length layout.writers) stream (exist s has)) (subst (λ n. CannotCome layout waits n h.waits_for.position) stream h.waits_for.cannot_come))
 
-  pub leave_out : ((a : ℕ) (s : Span) → a < frame_count layout → Has (spans_of layout a) s → s.stream < length layout.writers) → LeaveOutWaiting activations input ends frames
-  leave_out exist = record {
+  pub leave_out : ((a : ℕ) → a < length activations → get_or waits a false ≡ true → (p : Place) × (Contains (input_places activations a) p) × epoch.CannotCome ends frames (stream_source activations input p))
+      → LeaveOutWaiting activations input ends frames
+  leave_out wait = record {
     are_open = λ f a h. let (g, at) = (of_filter test all_open a (f, h)).0 in let e = open_each ends (frame_count layout) g a at in (omega (arith, count, e.0), e.1);
     ascend = ascend;
     others_wait = λ a lt none out. by_mark a lt none out (get_or waits a false) refl;
@@ -182,7 +183,7 @@ module _ (layout : Layout) (activations : List Activation) (of : IsLayoutOf layo
 
       by_mark : (a : ℕ) → a < length activations → outcome_at ends a ≡ None → number_in frames a ≡ None → (b : Bool) → get_or waits a false ≡ b
           → (p : Place) × (Contains (input_places activations a) p) × epoch.CannotCome ends frames (stream_source activations input p)
-      by_mark a lt none out true m = reads_it a lt (λ s h. exist a s (omega (arith, count)) h) (are.wait a m)
+      by_mark a lt none out true m = wait a lt m
       by_mark a lt none out false m =
           let (f, at) = open_all ends (frame_count layout) a (omega (arith, count)) none in
           let (g, g_at) = in_filter test all_open a (f, at) (ap not m) in

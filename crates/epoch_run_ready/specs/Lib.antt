@@ -1,5 +1,6 @@
--- What a reader believes: that the newest activations all wait.
+-- What a reader believes: that the newest activations all wait, and those before them.
 pub mod Newest
--- What restates private functions: which activations wait, by marks, and the first positions that can't come.
+-- What restates private functions: which activations wait, by marks, the first positions that can't come, and what nothing new reaches.
 pub mod Waiting
 pub mod Lowering
+pub mod Unreached

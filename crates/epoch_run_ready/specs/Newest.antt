@@ -1,6 +1,7 @@
--- The activations from a number on, where all of them wait.
-use Rattle.std.specs.Prelude.{ℕ, ◌-◌, ◌<◌, ◌≤◌, ◌++◌, Bool, true, false, List, [], Option, Contains, length, replicate}
+-- The activations from a number on, and those before it, where all of them wait.
+use Rattle.std.specs.Prelude.{◌≡◌, ℕ, None, ◌-◌, ◌<◌, ◌≤◌, ◌++◌, Bool, true, false, List, [], Option, Contains, length, replicate}
 use Rattle.flow_core_epochs.specs.Epoch.{CannotCome}
+use Rattle.flow_core_laws.specs.Outcome.{outcome_at}
 use Rattle.flow_core_laws.specs.Place.{Place, input_places}
 use Rattle.flow_core_laws.specs.Streams.{stream_source}
 use Rattle.flow_core_laws.specs.declared.activation.Activation.{Activation}
@@ -10,6 +11,12 @@ use Rattle.flow_core_laws.specs.declared.task_end.TaskEnd.{TaskEnd}
 abbrev pub WaitFrom : List Activation → List ℕ → List (Option TaskEnd) → ℕ → Type 0
 WaitFrom activations input ends first =
     (a : ℕ) → first ≤ a → a < length activations
+    → (p : Place) × (Contains (input_places activations a) p) × CannotCome ends [] (stream_source activations input p)
+
+-- So does each activation before a number that has no end.
+abbrev pub WaitBefore : List Activation → List ℕ → List (Option TaskEnd) → ℕ → Type 0
+WaitBefore activations input ends first =
+    (a : ℕ) → a < first → outcome_at ends a ≡ None
     → (p : Place) × (Contains (input_places activations a) p) × CannotCome ends [] (stream_source activations input p)
 
 -- marks of those from a number on

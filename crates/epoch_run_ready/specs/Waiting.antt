@@ -1,8 +1,8 @@
 -- Activations that wait for an element that can't come, by marks.
-use Rattle.std.specs.Prelude.{◌≡◌, ◌≢◌, ℕ, ◌<◌, ◌≤◌, ◌==◌, if◌then◌else◌, Bool, true, false, List}
+use Rattle.std.specs.Prelude.{◌≡◌, ◌≢◌, ℕ, ◌<◌, ◌≤◌, ◌⊎◌, ◌==◌, if◌then◌else◌, Bool, true, false, List}
 use Rattle.std.specs.Prelude.{Some, Contains, filter, length, not, slice_get, slice_index, slice_index_or}
 use Rattle.stream_match.specs.EpochCode.{Ascend}
-use Rattle.stream_match_layouts.specs.Spans.{frame_count, spans_of}
+use Rattle.stream_match_layouts.specs.Spans.{spans_of}
 use Rattle.stream_match_layouts.specs.Writers.{end_of, span_at}
 use Rattle.stream_match_layouts.specs.declared.layout.Layout.{Layout}
 use Rattle.stream_match_layouts.specs.declared.span.Span.{Span}
@@ -36,19 +36,25 @@ pub record HasWaitingSpan (layout : Layout) (waits : List Bool) (spans : List Sp
   pub is_one : Contains spans span
   pub waits_for : SpanWaits layout waits span
 
--- Each activation that has a mark is a reader, and waits.
-pub record AreWaiting (layout : Layout) (readers : List ℕ) (waits : List Bool) : Type 0 where
-  pub one_each : length waits ≡ frame_count layout
-  pub are_readers : (a : ℕ) → slice_index_or waits a false ≡ true → (f : ℕ) × (slice_get readers f ≡ Some a)
-  pub wait : (a : ℕ) → slice_index_or waits a false ≡ true → HasWaitingSpan layout waits (spans_of layout a)
+-- an activation is a reader, and waits
+pub record IsWaiting (layout : Layout) (readers : List ℕ) (waits : List Bool) (a : ℕ) : Type 0 where
+  pub number : ℕ
+  pub is_reader : slice_get readers number ≡ Some a
+  pub waits_for : HasWaitingSpan layout waits (spans_of layout a)
+
+-- Marks are added to others: each activation that has one more is a reader, and waits.
+pub record AreMarked (layout : Layout) (readers : List ℕ) (before after : List Bool) : Type 0 where
+  pub as_many : length after ≡ length before
+  pub are_kept : (a : ℕ) → slice_index_or before a false ≡ true → slice_index_or after a false ≡ true
+  pub more_wait : (a : ℕ) → slice_index_or after a false ≡ true → (slice_index_or before a false ≡ true) ⊎ IsWaiting layout readers after a
 
 -- Of each stream a position is known whose element can't come.
 pub record AreMissing (layout : Layout) (waits : List Bool) (missing : List ℕ) : Type 0 where
   pub one_each : length missing ≡ length layout.writers
   pub cannot_come : (stream : ℕ) → stream < length layout.writers → CannotCome layout waits stream (slice_index missing stream)
 
--- Frames are the readers that have no mark, if the readers ascend; each that has a mark waits.
-pub record AreUnmarked (layout : Layout) (readers frames : List ℕ) : Type 0 where
+-- Frames are the readers that have no mark, if the readers ascend; each that has a mark waits, or had one before.
+pub record AreUnmarked (layout : Layout) (readers : List ℕ) (before : List Bool) (frames : List ℕ) : Type 0 where
   pub waits : List Bool
-  pub are_waiting : AreWaiting layout readers waits
+  pub are_marked : AreMarked layout readers before waits
   pub others : Ascend readers → frames ≡ filter (λ a. not (slice_index_or waits a false)) readers

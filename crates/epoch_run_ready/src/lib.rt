@@ -8,15 +8,20 @@
 //! `newest_wait` asks first whether all that the control program has created since the last epoch wait, for one another or for what nobody
 //! writes. Then nothing may run, since those before wait as they did, and none of them is looked at again.
 //!
-//! The promise of `ready_frames` is `LeaveOutWaiting` of `flow_core_epochs`. It may leave in what can't run after all: the laws ask only
-//! that what is left out waits.
+//! `ready_since` is told how many activations waited before the epoch. Of those without an end it leaves out at once what the new ones can't
+//! reach, neither by what they write nor through others: activations that wait for one another in a circle too, of which no one alone
+//! shows that it waits. The others are judged as `ready_frames` does.
+//!
+//! The promise of both is `LeaveOutWaiting` of `flow_core_epochs`. They may leave in what can't run after all: the laws ask only that what
+//! is left out waits.
 #![tactic(auto)]
 
 mod marking;
 mod missing;
 mod newest;
 mod ready;
+mod unreached;
 mod waiting;
 
 pub use newest::newest_wait;
-pub use ready::ready_frames;
+pub use ready::{ready_frames, ready_since};

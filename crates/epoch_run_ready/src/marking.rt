@@ -3,7 +3,7 @@ ghost use Rattle.std.specs.Prelude.{length, not, slice_index, slice_index_or, sl
 ghost use Rattle.stream_match.specs.EpochCode.{Ascend};
 ghost use Rattle.stream_match_layouts.specs.Layout.{IsLayout};
 ghost use Rattle.stream_match_layouts.specs.Spans.{frame_count};
-ghost use Rattle.epoch_run_ready.specs.Waiting.{AreMissing, AreWaiting};
+ghost use Rattle.epoch_run_ready.specs.Waiting.{AreMarked, AreMissing};
 
 use crate::missing::lower;
 use crate::waiting::{read_behind, spans_wait};
@@ -91,15 +91,15 @@ pub(crate) fn mark_back(
     requires layout { IsLayout layout.now }
     requires readers { All (λ a. a < frame_count layout.now) readers.now }
     requires count { count ≤ length readers.now }
-    requires waiting { AreWaiting layout.now readers.now waits.old }
+    requires one_each { length waits.old ≡ frame_count layout.now }
     requires missing { AreMissing layout.now waits.old missing.old }
-    ensures waiting { AreWaiting layout.now readers.now waits.new }
+    ensures marked { AreMarked layout.now readers.now waits.old waits.new }
     ensures missing { AreMissing layout.now waits.new missing.new }
 {
     let mut left = count;
     'marking: while left > 0 {
         left -= 1;
-        let _ = mark(layout, waits, missing, readers, left);
+        let _ = gets_mark(layout, waits, missing, readers, left);
     }
 }
 
@@ -114,9 +114,9 @@ pub(crate) fn others(
 ) -> Result<List<u32>, Memory>
     requires layout { IsLayout layout.now }
     requires readers { All (λ a. a < frame_count layout.now) readers.now }
-    requires waiting { AreWaiting layout.now readers.now waits.old }
+    requires one_each { length waits.old ≡ frame_count layout.now }
     requires missing { AreMissing layout.now waits.old missing.old }
-    ensures waiting { AreWaiting layout.now readers.now waits.new }
+    ensures marked { AreMarked layout.now readers.now waits.old waits.new }
     ensures others { IfOk result (λ others. Ascend readers.now → others ≡ filter (λ a. not (slice_index_or waits.new a false)) readers.now) }
 {
     let mut others = List::new(alloc);
@@ -128,7 +128,7 @@ pub(crate) fn others(
     Ok(others)
 }
 
-/// Marks the reader of a number, if it waits. It answers whether the reader has a mark then.
+/// Marks the reader of a number, if it waits and has no mark yet. It answers whether the reader has a mark then.
 fn gets_mark(
     layout: &Layout,
     waits: &mut [bool],
@@ -139,11 +139,11 @@ fn gets_mark(
     requires layout { IsLayout layout.now }
     requires readers { All (λ a. a < frame_count layout.now) readers.now }
     requires exists { number < length readers.now }
-    requires waiting { AreWaiting layout.now readers.now waits.old }
+    requires one_each { length waits.old ≡ frame_count layout.now }
     requires missing { AreMissing layout.now waits.old missing.old }
-    ensures waiting { AreWaiting layout.now readers.now waits.new }
+    ensures marked { AreMarked layout.now readers.now waits.old waits.new }
     ensures missing { AreMissing layout.now waits.new missing.new }
-    ensures marked { result ≡ slice_index_or waits.new (slice_index readers.now number) false }
+    ensures told { result ≡ slice_index_or waits.new (slice_index readers.now number) false }
     ensures others { (a : ℕ) → a ≢ slice_index readers.now number → slice_index_or waits.new a false ≡ slice_index_or waits.old a false }
 {
     if is_marked(waits, readers[number]) {
@@ -164,9 +164,9 @@ fn mark(
     requires layout { IsLayout layout.now }
     requires readers { All (λ a. a < frame_count layout.now) readers.now }
     requires exists { number < length readers.now }
-    requires waiting { AreWaiting layout.now readers.now waits.old }
+    requires one_each { length waits.old ≡ frame_count layout.now }
     requires missing { AreMissing layout.now waits.old missing.old }
-    ensures waiting { AreWaiting layout.now readers.now waits.new }
+    ensures marked { AreMarked layout.now readers.now waits.old waits.new }
     ensures missing { AreMissing layout.now waits.new missing.new }
     ensures marks { waits.new ≡ (if result then slice_set waits.old (slice_index readers.now number) true else waits.old) }
 {

@@ -4,19 +4,34 @@ ghost use Rattle.stream_match_layouts.specs.Writers.{HasWriters, writers_on};
 ghost use Rattle.stream_match_layouts.specs.declared.layout.Layout.{Layout};
 ghost use Rattle.stream_match_layouts.specs.declared.span.Span.{Span};
 ghost use Rattle.epoch_run_ready.specs.Lowering.{lowered};
+ghost use Rattle.epoch_run_ready.specs.Unreached.{ReadBefore, WriteBehind};
 ghost use Rattle.epoch_run_ready.specs.Waiting.{AreMissing, HasWaitingSpan, SpanWaits, written_until};
 
 use crate::marking::is_marked;
 use crate::missing::lower_one;
 use stream_match_layouts::{Layout, Span};
 
-/// Whether one of some spans reads behind all that is written, by the positions of the streams there.
-pub(crate) fn read_behind(missing: &[u64], spans: &[Span]) -> bool
-    requires exist { All (λ (s : Span). s.stream < length missing.now) spans.now }
+/// Whether one of some spans reads behind positions of the streams, such as those behind all that is written.
+pub(crate) fn read_behind(positions: &[u64], spans: &[Span]) -> bool
+    requires exist { All (λ (s : Span). s.stream < length positions.now) spans.now }
     requires small { All (λ (s : Span). s.first < 2 ^ 62) spans.now }
+    ensures { result ≡ false → ReadBefore positions.now spans.now }
 {
     for span in spans {
-        if !span.write && missing[span.stream as usize] < span.first + u64::from(span.count) {
+        if !span.write && positions[span.stream as usize] < span.first + u64::from(span.count) {
+            return true;
+        }
+    }
+    false
+}
+
+/// Whether one of some spans writes before positions of the streams.
+pub(crate) fn write_before(positions: &[u64], spans: &[Span]) -> bool
+    requires exist { All (λ (s : Span). s.stream < length positions.now) spans.now }
+    ensures { result ≡ false → WriteBehind positions.now spans.now }
+{
+    for span in spans {
+        if span.write && span.first < positions[span.stream as usize] {
             return true;
         }
     }

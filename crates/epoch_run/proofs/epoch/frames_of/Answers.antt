@@ -1,5 +1,5 @@
-use Rattle.std.proofs.Common.{◌<◌, All, List, subst, sym, ℕ}
-use Rattle.epoch_run_ready.specs.Newest.{WaitFrom}
+use Rattle.std.proofs.Common.{◌<◌, All, List, length, subst, sym, ℕ}
+use Rattle.epoch_run_ready.specs.Newest.{WaitBefore, WaitFrom}
 use Rattle.flow_core_epochs.proofs.Carried.{has_all}
 use Rattle.flow_core_epochs.proofs.Frames.{open_each}
 use Rattle.flow_core_epochs.specs.Epoch.{LeaveOutWaiting, open_in}
@@ -7,11 +7,11 @@ use Rattle.os_code.specs.Codes.{parts_of}
 use Rattle.stream_match_layouts.specs.Spans.{frame_count}
 use Rattle.epoch_run.specs.Bodies.{all_of}
 use Rattle.epoch_run.specs.Held.{listed}
-use Rattle.epoch_run.proofs.StillWaiting.{none_may_run}
+use Rattle.epoch_run.proofs.StillWaiting.{none_may_run, wait_before}
 use Rattle.epoch_run.proofs.epoch.frames_of.Goals as goal
 
-pub ready_frames-requires-clause-readers : goal.ready_frames-requires-clause-readers
-ready_frames-requires-clause-readers c =
+pub ready_since-requires-clause-readers : goal.ready_since-requires-clause-readers
+ready_since-requires-clause-readers c =
     let es = c.args.held.now.ends.ends in
     let n : ℕ = frame_count c.args.layout.now in
     subst (λ (xs : List ℕ). All (λ a. a < n) xs) (sym c.requires.readers)
@@ -32,4 +32,13 @@ returns-then-wait c =
 pub returns : goal.returns
 returns c =
     let o = c.requires.open in
-    c.in_ok-frames.ensures (all_of c.args.bodies.now) c.args.input.now c.args.held.now.ends.ends o.laid (sym o.over) c.requires.readers
+    let b = c.args.bodies.now in
+    let code = parts_of b.code.now in
+    let activations = all_of b in
+    let input = c.args.input.now in
+    let es = c.args.held.now.ends.ends in
+    let before : WaitBefore activations input es (length es) =
+        wait_before code activations input b.budgets.task (listed c.args.held.now) c.later_activations_change_nothing.ensures o.stands
+        (c.bodies_serve.ensures.parts code activations b.budgets.task b.code.now.valid o.fit o.small) in
+    c.in_ok-frames.ensures activations input es o.laid (sym o.over) c.requires.readers (sym c.len-2.ensures)
+    (subst (WaitBefore activations input es) (sym c.len-2.ensures) before)

@@ -8,7 +8,7 @@ use Rattle.stream_match.proofs.Lowering.{streams_exist}
 use Rattle.stream_match_layouts.specs.Spans.{frame_count, spans_of}
 use Rattle.stream_match_layouts.specs.declared.span.Span.{Span}
 use Rattle.epoch_run_ready.specs.Waiting.{HasWaitingSpan}
-use Rattle.epoch_run_ready.proofs.Marks.{mark_more, missing_more}
+use Rattle.epoch_run_ready.proofs.Marks.{mark_more, mark_same, missing_more}
 use Rattle.epoch_run_ready.proofs.FirstMissing.{missing_lowered}
 use Rattle.epoch_run_ready.proofs.marking.mark.Goals as goal
 
@@ -43,11 +43,14 @@ returns-then-spans_wait c =
     let waits = c.args.waits.now in
     let a : ℕ = get_or c.args.readers.now c.args.number 0 in
     let lt : a < frame_count layout = All-get_or (λ b. b < frame_count layout) c.args.readers.now c.args.number 0 c.requires.exists c.requires.readers in
-    let within : a < length waits = omega (arith, c.requires.waiting.one_each, lt) in
+    let within : a < length waits = omega (arith, c.requires.one_each, lt) in
     record {
-      waiting = mark_more layout c.args.readers.now waits c.args.number a within (slice_get-get_or c.args.readers.now c.args.number 0 c.requires.exists)
-          (subst (HasWaitingSpan layout waits) c.spans_of-spans.ensures (c.spans_wait.ensures c.if-spans_wait.true)) c.requires.waiting;
+      marked = mark_more layout c.args.readers.now waits c.args.number a within (slice_get-get_or c.args.readers.now c.args.number 0 c.requires.exists)
+          (subst (HasWaitingSpan layout waits) c.spans_of-spans.ensures (c.spans_wait.ensures c.if-spans_wait.true));
       missing = missing_lowered layout c.requires.layout (set waits a true) a c.spans_of-spans.result.now c.args.missing.now c.lower.new.missing lt c.spans_of-spans.ensures
           (get_or-set_same waits a true false within) (missing_more layout waits a c.args.missing.now within c.requires.missing) c.lower.ensures.length c.lower.ensures.lowered;
       marks = refl;
     }
+
+pub returns-clause-marked : goal.returns-clause-marked
+returns-clause-marked c = mark_same c.args.layout.now c.args.readers.now c.args.waits.now

@@ -1,11 +1,11 @@
 use Rattle.std.proofs.Common.{◌≤◌, length}
-use Rattle.epoch_run_ready.specs.Waiting.{AreMissing, AreWaiting}
+use Rattle.epoch_run_ready.specs.Waiting.{AreMarked, AreMissing}
 use Rattle.epoch_run_ready.proofs.marking.mark_back.Given as goal
 
 abbrev pub invariant-marking : goal.invariant-marking
 invariant-marking l = record {
   within : l.left ≤ length l.readers;
-  waiting : AreWaiting l.layout l.readers l.waits;
+  marked : AreMarked l.layout l.readers l.initial.waits l.waits;
   missing : AreMissing l.layout l.waits l.missing;
 }
 

@@ -1,4 +1,5 @@
 use Rattle.std.proofs.Common.{◌≡◌, ◌∷◌, ◌++◌, ℕ, Bool, [], cond, false, get_or, rules, subst, sym, true}
+use Rattle.epoch_run_ready.proofs.Marks.{mark_both}
 use Rattle.epoch_run_ready.proofs.Passing.{unmarked_more}
 use Rattle.epoch_run_ready.proofs.marking.others.Goals as goal
 use Rattle.epoch_run_ready.proofs.marking.others.Goals.{then-not-gets_mark+in_ok-push, else-not-gets_mark}
@@ -24,7 +25,10 @@ loop-number-preserved c =
           )
     ] in
     record {
-      waiting = c.gets_mark.ensures.waiting;
+      marked = mark_both c.args.layout.now readers c.args.waits.now c.loop-number.waits new c.loop-number.invariant.marked c.gets_mark.ensures.marked;
       missing = c.gets_mark.ensures.missing;
       others = λ ascend. unmarked_more readers c.loop-number.waits new before after n c.loop-number-test.true ascend c.gets_mark.ensures.others (c.loop-number.invariant.others ascend) step;
     }
+
+pub returns-in_err-push-clause-marked : goal.returns-in_err-push-clause-marked
+returns-in_err-push-clause-marked c = mark_both c.args.layout.now c.args.readers.now c.args.waits.now c.loop-number.waits c.gets_mark.new.waits c.loop-number.invariant.marked c.gets_mark.ensures.marked

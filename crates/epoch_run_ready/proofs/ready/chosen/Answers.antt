@@ -1,22 +1,15 @@
-use Rattle.std.proofs.Common.{◌≡◌, ◌∙◌, [], Bool, List, ap, false, length, refl, replicate, rules, subst, sym, ℕ}
-use Rattle.std.proofs.lemmas.List.{length-replicate}
+use Rattle.std.proofs.Common.{◌∙◌, [], Bool, List, ap, false, length, replicate, subst, sym, ℕ}
 use Rattle.stream_match_layouts.specs.Spans.{frame_count}
 use Rattle.epoch_run_ready.specs.Waiting.{AreMissing}
-use Rattle.epoch_run_ready.proofs.Marks.{mark_none, no_mark}
+use Rattle.epoch_run_ready.proofs.Marks.{mark_same, no_mark}
 use Rattle.epoch_run_ready.proofs.Passing.{unmarked_all}
 use Rattle.epoch_run_ready.proofs.ready.chosen.Goals as goal
 
 pub up_to_last_behind-count-requires-clause-missing : goal.up_to_last_behind-count-requires-clause-missing
 up_to_last_behind-count-requires-clause-missing c = ap (λ (xs : List ℕ). length xs) c.as_slice.ensures.value ∙ (c.in_ok-missing.ensures []).one_each
 
-pub mark_back-requires-clause-waiting : goal.mark_back-requires-clause-waiting
-mark_back-requires-clause-waiting c =
-    let n = frame_count c.args.layout.now in
-    let is : c.as_mut_slice.result.now ≡ replicate n false = search rules in
-    mark_none c.args.layout.now c.args.readers.now c.as_mut_slice.result.now n is (ap (λ (xs : List Bool). length xs) is ∙ length-replicate n false)
-
-pub mark_back-requires-clause-missing : goal.mark_back-requires-clause-missing
-mark_back-requires-clause-missing c =
+pub unmarked-requires-clause-missing : goal.unmarked-requires-clause-missing
+unmarked-requires-clause-missing c =
     subst (λ (xs : List ℕ). AreMissing c.args.layout.now c.as_mut_slice.result.now xs) (sym c.as_mut_slice-2.ensures.value) (c.in_ok-missing.ensures c.as_mut_slice.result.now)
 
 pub returns-then-count-eq0 : goal.returns-then-count-eq0
@@ -27,6 +20,6 @@ returns-then-count-eq0 c =
     let none : List Bool = replicate n false in
     record {
       waits = none;
-      are_waiting = mark_none layout readers none n refl (length-replicate n false);
+      are_marked = mark_same layout readers none;
       others = λ ascend. c.in_ok-frames.ensures ∙ sym (unmarked_all none readers (no_mark n));
     }
