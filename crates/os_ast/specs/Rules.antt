@@ -88,8 +88,7 @@ is_wrong_kind id (usage.Place r s) e = is_function e || has_wrong_shape s e
 is_wrong_kind id (usage.Called args) e = not (is_function e) || (id == main_id)
 -- what stands behind an arrow is neither a scalar of the control program nor a window; there a scalar has a burst, or a
 -- window has none
-is_wrong_kind id (usage.Joined s) e =
-    (not (is_control e) && not (is_a_window e)) || (is_control e && has_index s) || (is_a_window e && not (has_index s))
+is_wrong_kind id (usage.Joined s) e = (not (is_control e) && not (is_a_window e)) || (is_control e && has_index s) || (is_a_window e && not (has_index s))
 -- a `firstprivate` name is neither a scalar of the control program nor `osin_len`
 is_wrong_kind id usage.Private e = not (is_control e) && not (is_input_length e)
 
