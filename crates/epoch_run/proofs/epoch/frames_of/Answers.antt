@@ -38,7 +38,7 @@ returns c =
     let input = c.args.input.now in
     let es = c.args.held.now.ends.ends in
     let before : WaitBefore activations input es (length es) =
-        wait_before code activations input b.budgets.task (listed c.args.held.now) c.later_activations_change_nothing.ensures o.stands
-        (c.bodies_serve.ensures.parts code activations b.budgets.task b.code.now.valid o.fit o.small) in
+    wait_before code activations input b.budgets.task (listed c.args.held.now) c.later_activations_change_nothing.ensures o.stands
+    (c.bodies_serve.ensures.parts code activations b.budgets.task b.code.now.valid o.fit o.small) in
     c.in_ok-frames.ensures activations input es o.laid (sym o.over) c.requires.readers (sym c.len-2.ensures)
     (subst (WaitBefore activations input es) (sym c.len-2.ensures) before)
