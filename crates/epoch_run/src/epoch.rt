@@ -128,7 +128,7 @@ fn frames_of(
 {
     bodies_serve();
     later_activations_change_nothing();
-    let wait = newest_wait(alloc, layout, held.ends.ends.len())?;
+    let wait = newest_wait(alloc, layout, readers, held.ends.ends.len())?;
     if wait {
         return Ok(List::new(alloc));
     }

@@ -1,5 +1,5 @@
 -- The newest activations, where all of them wait.
-use Rattle.std.proofs.Common.{◌≡◌, ℕ, zero, suc, ◌+◌, ◌-◌, ◌<◌, ◌≤◌, List, [], ◌++◌, Option, Some, None, Bool, true, false, inl, inr, length, get_or, replicate, refl, arith}
+use Rattle.std.proofs.Common.{◌≡◌, ℕ, zero, suc, ◌+◌, ◌-◌, ◌<◌, ◌≤◌, ◌⊎◌, List, [], ◌++◌, Option, Some, None, Bool, true, false, inl, inr, length, get_or, replicate, refl, subst, arith}
 use Rattle.std.specs.Prelude.{slice_get}
 use Rattle.std.proofs.lemmas.Bool.{cases_lt}
 use Rattle.std.proofs.lemmas.List.{get_or_past, length-append, length-replicate}
@@ -15,7 +15,7 @@ use Rattle.stream_match_layouts.specs.Spans.{frame_count, spans_of}
 use Rattle.stream_match_layouts.specs.declared.layout.Layout.{Layout}
 use Rattle.stream_match_layouts.specs.declared.span.Span.{Span}
 use Rattle.epoch_run_ready.specs.Newest.{WaitFrom, marked_from}
-use Rattle.epoch_run_ready.specs.Waiting.{HasWaitingSpan}
+use Rattle.epoch_run_ready.specs.Waiting.{HasWaitingSpan, WaitAround}
 use Rattle.epoch_run_ready.proofs.Stuck.{reads_it}
 
 -- marks behind none
@@ -54,11 +54,11 @@ none_runs ends frames source unwritten = unwritten
 none_runs ends frames source (left_out producer place none out) = left_out producer place none refl
 
 -- where each of them has a span that waits, they wait
-pub wait_all : (layout : Layout) (first : ℕ) → ((a : ℕ) (s : Span) → a < frame_count layout → Has (spans_of layout a) s → s.stream < length layout.writers)
-    → ((a : ℕ) → first ≤ a → a < frame_count layout → HasWaitingSpan layout (marked_from first (frame_count layout)) (spans_of layout a))
-    → (activations : List Activation) (input : List ℕ) (ends : List (Option TaskEnd)) → IsLayoutOf layout activations → length input ≡ layout.input_len → length ends ≡ first → WaitFrom activations input ends first
-wait_all layout first exist spans activations input ends of over many a le lt =
-    let (p, reads, cannot) = reads_it layout activations of input over ends (open_in ends count) refl marks open_one a lt (λ s h. exist a s (omega (arith, is)) h) (spans a le (omega (arith, is))) in
+pub wait_all : (layout : Layout) (readers : List ℕ) (first : ℕ) → ((a : ℕ) (s : Span) → a < frame_count layout → Has (spans_of layout a) s → s.stream < length layout.writers)
+    → WaitAround layout readers first → (activations : List Activation) (input : List ℕ) (ends : List (Option TaskEnd)) → IsLayoutOf layout activations → length input ≡ layout.input_len → length ends ≡ first
+    → readers ≡ open_in ends (frame_count layout) → WaitFrom activations input ends first
+wait_all layout readers first exist around activations input ends of over many are_open a le lt =
+    let (p, reads, cannot) = reads_it layout activations of input over ends (open_in ends count) refl marks open_one a lt (λ s h. exist a s (omega (arith, is)) h) (around.wait a le (omega (arith, is))) in
     (p, reads, none_runs ends _ _ cannot)
   where
     count : ℕ
@@ -68,12 +68,21 @@ wait_all layout first exist spans activations input ends of over many a le lt =
     is = frame_count-is layout activations of
 
     marks : List Bool
-    marks = marked_from first (frame_count layout)
+    marks = marked_from around.from (frame_count layout)
 
-    few : first ≤ frame_count layout
-    few = omega (arith, is)
+    few : around.from ≤ frame_count layout
+    few = omega (arith, is, around.few)
 
-    open_one : (b : ℕ) → get_or (marked_from first (frame_count layout)) b false ≡ true → (f : ℕ) × (slice_get (open_in ends (frame_count layout)) f ≡ Some b)
+    open_one : (b : ℕ) → get_or (marked_from around.from (frame_count layout)) b false ≡ true → (f : ℕ) × (slice_get (open_in ends (frame_count layout)) f ≡ Some b)
     open_one b m =
-        let (from, to) = is_marked first (frame_count layout) b few m in
-        open_all ends (frame_count layout) b to (get_or_past ends b None (omega (arith, many)))
+        let (from, to) = is_marked around.from (frame_count layout) b few m in
+        by from to (cases_lt b first)
+      where
+        by : around.from ≤ b → b < frame_count layout → (b < first) ⊎ (first ≤ b) → (f : ℕ) × (slice_get (open_in ends (frame_count layout)) f ≡ Some b)
+        by from to (inl before) = let (f, at) = around.are_readers b from before in (f, subst (λ xs. slice_get xs f ≡ Some b) are_open at)
+        by from to (inr new) = open_all ends (frame_count layout) b to (get_or_past ends b None (omega (arith, many)))
+
+-- so it is where they wait without those before them
+pub around_none : (layout : Layout) (readers : List ℕ) (first : ℕ) → ((a : ℕ) → first ≤ a → a < frame_count layout → HasWaitingSpan layout (marked_from first (frame_count layout)) (spans_of layout a))
+    → WaitAround layout readers first
+around_none layout readers first spans = record { from = first; few = omega arith; are_readers = λ a le lt. absurd (omega arith); wait = spans }

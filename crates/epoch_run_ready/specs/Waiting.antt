@@ -2,10 +2,11 @@
 use Rattle.std.specs.Prelude.{◌≡◌, ◌≢◌, ℕ, ◌<◌, ◌≤◌, ◌⊎◌, ◌==◌, if◌then◌else◌, Bool, true, false, List}
 use Rattle.std.specs.Prelude.{Some, Contains, filter, length, not, slice_get, slice_index, slice_index_or}
 use Rattle.stream_match.specs.EpochCode.{Ascend}
-use Rattle.stream_match_layouts.specs.Spans.{spans_of}
+use Rattle.stream_match_layouts.specs.Spans.{frame_count, spans_of}
 use Rattle.stream_match_layouts.specs.Writers.{end_of, span_at}
 use Rattle.stream_match_layouts.specs.declared.layout.Layout.{Layout}
 use Rattle.stream_match_layouts.specs.declared.span.Span.{Span}
+use Rattle.epoch_run_ready.specs.Newest.{marked_from}
 
 -- whether an activation is stuck: it has a mark
 abbrev pub is_stuck : List Bool → ℕ → Bool
@@ -47,6 +48,13 @@ pub record AreMarked (layout : Layout) (readers : List ℕ) (before after : List
   pub as_many : length after ≡ length before
   pub are_kept : (a : ℕ) → slice_index_or before a false ≡ true → slice_index_or after a false ≡ true
   pub more_wait : (a : ℕ) → slice_index_or after a false ≡ true → (slice_index_or before a false ≡ true) ⊎ IsWaiting layout readers after a
+
+-- The activations from a number on wait, where they and all readers from another number on get none: each reads an element that can't come then.
+pub record WaitAround (layout : Layout) (readers : List ℕ) (first : ℕ) : Type 0 where
+  pub from : ℕ
+  pub few : from ≤ first
+  pub are_readers : (a : ℕ) → from ≤ a → a < first → (f : ℕ) × (slice_get readers f ≡ Some a)
+  pub wait : (a : ℕ) → first ≤ a → a < frame_count layout → HasWaitingSpan layout (marked_from from (frame_count layout)) (spans_of layout a)
 
 -- Of each stream a position is known whose element can't come.
 pub record AreMissing (layout : Layout) (waits : List Bool) (missing : List ℕ) : Type 0 where

@@ -6,7 +6,8 @@
 //! more: what waits is planned once, in the epoch in which it may run.
 //!
 //! `newest_wait` asks first whether all that the control program has created since the last epoch wait, for one another or for what nobody
-//! writes. Then nothing may run, since those before wait as they did, and none of them is looked at again.
+//! writes. Then nothing may run, since those before wait as they did, and none of them is looked at again. Activations that wait for one
+//! another in a circle are found so too, also where it began a little before that epoch.
 //!
 //! `ready_since` is told how many activations waited before the epoch. Of those without an end it leaves out at once what the new ones can't
 //! reach, neither by what they write nor through others: activations that wait for one another in a circle too, of which no one alone
@@ -16,6 +17,7 @@
 //! is left out waits.
 #![tactic(auto)]
 
+mod circles;
 mod marking;
 mod missing;
 mod newest;

@@ -38,6 +38,16 @@ pub(crate) fn write_before(positions: &[u64], spans: &[Span]) -> bool
     false
 }
 
+/// Whether one of some spans reads a stream other than the input.
+pub(crate) fn reads_stream(spans: &[Span]) -> bool {
+    for span in spans {
+        if !span.write && span.stream != 0 {
+            return true;
+        }
+    }
+    false
+}
+
 /// Whether one of some spans reads behind all that is written.
 pub(crate) fn reads_unwritten(layout: &Layout, spans: &[Span]) -> bool
     requires layout { IsLayout layout.now }

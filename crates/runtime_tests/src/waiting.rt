@@ -34,7 +34,7 @@ fn are_found(rt: &(impl AllocGlobal + Abort), layout: &Layout, wait: &[bool]) ->
     requires { IsLayout layout.now }
 {
     for (first, wait) in wait.iter().enumerate() {
-        assert!(rt; newest_wait(rt.alloc(), layout, first)? == *wait);
+        assert!(rt; newest_wait(rt.alloc(), layout, &[], first)? == *wait);
     }
     Ok(())
 }
@@ -80,11 +80,11 @@ static CASES: [Case<'static>; 6] = [
         ],
         wait: &[false, true, true],
     },
-    // Both wait in truth; but the second one reads what is written, and who writes it isn't asked.
+    // The second one waits for the first. By itself it isn't found to: who writes what it reads isn't asked.
     Case {
         input_len: 0,
         tasks: &[&[reads!(3, 1, 1, 0), writes!(2, 1)], &[reads!(2, 1, 1, 0)]],
-        wait: &[false, false],
+        wait: &[true, false],
     },
     // None is there.
     Case {
@@ -99,4 +99,19 @@ fn new_activations_wait_for_one_another_for_the_input_or_for_nobody(
     rt: HostRuntime,
 ) -> Result<(), Fail> {
     all_hold(&rt, &CASES)
+}
+
+/// Two activations, of which each reads what the other one writes.
+static CIRCLE: [&[Claim]; 2] = [
+    &[reads!(2, 1, 1, 0), writes!(3, 1)],
+    &[reads!(3, 1, 1, 0), writes!(2, 1)],
+];
+
+#[test]
+fn activations_wait_in_a_circle_with_the_readers_before_them(rt: HostRuntime) -> Result<(), Fail> {
+    let layout = layout_of(rt.alloc(), 4, 0, &CIRCLE)?;
+    assert!(rt; newest_wait(rt.alloc(), &layout, &[], 0)?);
+    assert!(rt; newest_wait(rt.alloc(), &layout, &[0, 1], 1)?);
+    assert!(rt; !newest_wait(rt.alloc(), &layout, &[], 1)?);
+    Ok(())
 }

@@ -27,7 +27,7 @@ returns-then-wait c =
     subst (LeaveOutWaiting activations c.args.input.now es) (sym c.new.ensures)
     (none_may_run code activations c.args.input.now b.budgets.task (listed c.args.held.now) c.later_activations_change_nothing.ensures o.stands
     (c.bodies_serve.ensures.parts code activations b.budgets.task b.code.now.valid o.fit o.small)
-    (subst (WaitFrom activations c.args.input.now es) c.len.ensures (c.in_ok-wait.ensures c.if-wait.true activations c.args.input.now es o.laid (sym o.over) (sym c.len.ensures))))
+    (subst (WaitFrom activations c.args.input.now es) c.len.ensures (c.in_ok-wait.ensures c.if-wait.true activations c.args.input.now es o.laid (sym o.over) (sym c.len.ensures) c.requires.readers)))
 
 pub returns : goal.returns
 returns c =
