@@ -11,8 +11,9 @@ most, and nothing else.
     chain       each reads one element that the one before it wrote
     lift        each reads four elements of the input and writes four: examples/lift.c
     swapped     pairs of activations: one reads two elements that the one behind it writes, so it waits
+    waiting     pairs of activations that wait for one another, so that none ever runs: examples/waiting.c
 
-All but the last are run in control order, with no plan, delivery or carrying; the last one goes through epochs.
+All but the last two are run in control order, with no plan, delivery or carrying; these go through epochs.
 
 ./build has to have built the program."""
 import os
@@ -98,6 +99,7 @@ RUNS = {
     "chain": (CHAIN, lambda count: count),
     "lift": (None, lambda count: 4 * count),
     "swapped": (SWAPPED, lambda count: count),
+    "waiting": (None, lambda count: count // 2),
 }
 
 # What counts for which stop: the beginnings of the names of functions.
@@ -146,10 +148,17 @@ def stop_of(function):
     return "rest"
 
 
+def finish(words):
+    """Runs a command whose run may have activations that never ran: its status is 0 or 1."""
+    status = subprocess.run(words, stdout=subprocess.DEVNULL, stderr=subprocess.DEVNULL).returncode
+    if status not in (0, 1):
+        raise RuntimeError(f"status {status}: {' '.join(words)}")
+
+
 def instructions(program, data, work):
     """Machine instructions by function."""
     out = f"{work}/callgrind"
-    subprocess.run(["valgrind", "--tool=callgrind", f"--callgrind-out-file={out}", *words(program, data)], stdout=subprocess.DEVNULL, stderr=subprocess.DEVNULL, check=True)
+    finish(["valgrind", "--tool=callgrind", f"--callgrind-out-file={out}", *words(program, data)])
     return costs(out)
 
 
@@ -158,7 +167,7 @@ def quickest(program, data):
     best = None
     for _ in range(15):
         begun = time.perf_counter()
-        subprocess.run(words(program, data), stdout=subprocess.DEVNULL, stderr=subprocess.DEVNULL, check=True)
+        finish(words(program, data))
         took = (time.perf_counter() - begun) * 1e6
         best = took if best is None else min(best, took)
     return best
