@@ -9,12 +9,11 @@ and by the least.
 import os
 import shutil
 import statistics
-import subprocess
 import sys
 import tempfile
 import time
 
-from stops import COUNT, OSRUN, RUNS, TOP
+from stops import COUNT, OSRUN, RUNS, TOP, finish
 
 TIMES = 9
 
@@ -37,7 +36,7 @@ def milliseconds(way, program, data):
     """What one run of the command takes."""
     words = [OSRUN, way, program, data, "--workers", "1"]
     begun = time.perf_counter()
-    subprocess.run(words, stdout=subprocess.DEVNULL, stderr=subprocess.DEVNULL, check=True)
+    finish(words)
     return (time.perf_counter() - begun) * 1000
 
 

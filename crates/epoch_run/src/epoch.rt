@@ -112,8 +112,8 @@ fn open_activations(alloc: Global, layout: &Layout, held: &mut Held) -> Result<L
     Ok(readers)
 }
 
-/// The frames of an epoch: of the activations that have no end yet those that don't wait, and none where all new ones wait. Those of earlier
-/// epochs that nothing new can reach wait as they did, also for one another in a circle.
+/// The frames of an epoch: of the activations that have no end yet those that aren't found to wait, and none where all new ones are. Those of
+/// earlier epochs that nothing new can reach wait as they did, also for one another in a circle.
 fn frames_of(
     alloc: Global,
     bodies: &OpenBodies<'_>,

@@ -20,7 +20,8 @@ pub record AreJudged (layout : Layout) (readers : List ℕ) (first : ℕ) (low :
   pub are_before : (a : ℕ) → slice_index_or waits a false ≡ true → a < first
   pub are_readers : (a : ℕ) → slice_index_or waits a false ≡ true → (f : ℕ) × (slice_get readers f ≡ Some a)
   pub read_before : (a : ℕ) → slice_index_or waits a false ≡ true → ReadBefore low (spans_of layout a)
-  pub others : (f : ℕ) → from ≤ f → f < length readers → (slice_index_or waits (slice_index readers f) false ≡ true) ⊎ WriteBehind low (spans_of layout (slice_index readers f))
+  pub others : (f : ℕ) → from ≤ f → f < length readers
+      → (slice_index_or waits (slice_index readers f) false ≡ true) ⊎ WriteBehind low (spans_of layout (slice_index readers f))
 
 -- Marks of readers before a number that nothing reaches: no other reader writes what they read.
 pub record AreUnreached (layout : Layout) (readers : List ℕ) (first : ℕ) (waits : List Bool) : Type 0 where

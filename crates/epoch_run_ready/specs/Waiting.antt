@@ -49,7 +49,8 @@ pub record AreMarked (layout : Layout) (readers : List ℕ) (before after : List
   pub are_kept : (a : ℕ) → slice_index_or before a false ≡ true → slice_index_or after a false ≡ true
   pub more_wait : (a : ℕ) → slice_index_or after a false ≡ true → (slice_index_or before a false ≡ true) ⊎ IsWaiting layout readers after a
 
--- The activations from a number on wait, where they and all readers from another number on get none: each reads an element that can't come then.
+-- The activations from a number on wait, where all from an earlier number on get no end, of which those before are readers: each reads an element
+-- that can't come then.
 pub record WaitAround (layout : Layout) (readers : List ℕ) (first : ℕ) : Type 0 where
   pub from : ℕ
   pub few : from ≤ first

@@ -43,7 +43,7 @@ pub(crate) fn wait_around(
     Ok(wait)
 }
 
-/// The number from which on all activations before a number are readers, of which so many come from that number on: it is looked for a little way back.
+/// The number from which on all activations before `first` are readers; of the readers `new` come from `first` on. It is looked for a little way back.
 fn readers_before(readers: &[u32], new: usize, first: usize) -> usize
     ensures few { result ≤ first }
     ensures open { (b : ℕ) → result ≤ b → b < first → (f : ℕ) × (slice_get readers.now f ≡ Some b) }

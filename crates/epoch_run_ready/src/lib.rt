@@ -9,11 +9,11 @@
 //! writes. Then nothing may run, since those before wait as they did, and none of them is looked at again. Activations that wait for one
 //! another in a circle are found so too, also where it began a little before that epoch.
 //!
-//! `ready_since` is told how many activations waited before the epoch. Of those without an end it leaves out at once what the new ones can't
-//! reach, neither by what they write nor through others: activations that wait for one another in a circle too, of which no one alone
-//! shows that it waits. The others are judged as `ready_frames` does.
+//! `ready_since` is told how many activations waited before the epoch. Of those without an end it leaves out at once what it finds that the new
+//! ones can't reach, neither by what they write nor through others: activations that wait for one another in a circle too, of which no one
+//! alone shows that it waits. The others are judged as `ready_frames` does.
 //!
-//! The promise of both is `LeaveOutWaiting` of `flow_core_epochs`. They may leave in what can't run after all: the laws ask only that what
+//! The promise of `ready_frames` and `ready_since` is `LeaveOutWaiting` of `flow_core_epochs`. They may leave in what can't run after all: the laws ask only that what
 //! is left out waits.
 #![tactic(auto)]
 

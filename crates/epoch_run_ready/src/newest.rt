@@ -16,7 +16,7 @@ use stream_match_layouts::Layout;
 
 /// Whether all activations from a number on wait, where none of them has an end, and the readers are all that have none: each reads an element that
 /// nobody writes yet, or that one of them writes, also in a circle, or one of the last readers before them. So an epoch that was found to leave nothing
-/// to run needs no second look at those before, which wait as they did. What waits for other earlier ones alone isn't found.
+/// to run needs no second look at those before, which wait as they did. It may say no where all wait: what waits for other earlier ones isn't found.
 pub fn newest_wait(
     alloc: Global,
     layout: &Layout,

@@ -15,9 +15,9 @@ use os_io::{List, Memory};
 use std::alloc::Global;
 use stream_match_layouts::Layout;
 
-/// The activations that an epoch runs, where those before a number waited before it: of the readers, which are all that have no end yet,
-/// those that don't wait, as `ready_frames` finds them, without those before the number that nothing new can reach. So activations that wait
-/// for one another are left out of each epoch but the one in which the last of them comes.
+/// The activations that an epoch runs, where those before a number waited before this epoch: of the readers, which are all that have no end yet,
+/// those that don't wait, as `ready_frames` finds them, without those before the number that nothing new is found to reach. So activations that
+/// wait for one another are left out once the last of them has come, unless a new one writes what one of them reads.
 pub fn ready_since(
     alloc: Global,
     layout: &Layout,

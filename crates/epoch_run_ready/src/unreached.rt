@@ -9,7 +9,7 @@ ghost use Rattle.stream_match_layouts.specs.Layout.{IsLayout};
 ghost use Rattle.stream_match_layouts.specs.Spans.{frame_count};
 ghost use Rattle.epoch_run_ready.specs.Unreached.{AreJudged, AreUnreached};
 
-use crate::missing::{behind_all, lower};
+use crate::missing::lower;
 use crate::waiting::{read_behind, write_before};
 use os_io::Memory;
 use std::alloc::Global;
@@ -33,7 +33,8 @@ pub(crate) fn unreached(
     if !has_old(readers, first) {
         return Ok(None);
     }
-    let mut low = behind_all(alloc, layout)?;
+    let mut low = Vec::new(alloc);
+    low.resize(layout.writers.len(), u64::MAX)?;
     lower_new(layout, first, low.as_mut_slice());
     for _ in 0..PASSES {
         if let Some(waits) = marks(alloc, layout, readers, first, low.as_slice())? {

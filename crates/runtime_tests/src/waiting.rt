@@ -4,7 +4,7 @@ ghost use Rattle.stream_match_layouts.specs.Layout.{IsLayout};
 
 use crate::activations::layout_of;
 use crate::literals::{reads, writes};
-use epoch_run_ready::newest_wait;
+use epoch_run_ready::{newest_wait, ready_since};
 use flow_core::Claim;
 use os_io::Memory;
 use std::process::Abort;
@@ -24,17 +24,27 @@ struct Case<'a> {
 fn all_hold(rt: &(impl AllocGlobal + Abort), cases: &[Case<'_>]) -> Result<(), Fail> {
     for case in cases {
         let layout = layout_of(rt.alloc(), 4, case.input_len, case.tasks)?;
-        are_found(rt, &layout, case.wait)?;
+        are_found(
+            rt,
+            &layout,
+            &READERS[..case.tasks.len().min(READERS.len())],
+            case.wait,
+        )?;
     }
     Ok(())
 }
 
 /// Whether those from each number on are found to wait, or not to.
-fn are_found(rt: &(impl AllocGlobal + Abort), layout: &Layout, wait: &[bool]) -> Result<(), Memory>
+fn are_found(
+    rt: &(impl AllocGlobal + Abort),
+    layout: &Layout,
+    readers: &[u32],
+    wait: &[bool],
+) -> Result<(), Memory>
     requires { IsLayout layout.now }
 {
     for (first, wait) in wait.iter().enumerate() {
-        assert!(rt; newest_wait(rt.alloc(), layout, &[], first)? == *wait);
+        assert!(rt; newest_wait(rt.alloc(), layout, readers, first)? == *wait);
     }
     Ok(())
 }
@@ -80,11 +90,11 @@ static CASES: [Case<'static>; 6] = [
         ],
         wait: &[false, true, true],
     },
-    // The second one waits for the first. By itself it isn't found to: who writes what it reads isn't asked.
+    // The second one waits for the first, which has no end.
     Case {
         input_len: 0,
         tasks: &[&[reads!(3, 1, 1, 0), writes!(2, 1)], &[reads!(2, 1, 1, 0)]],
-        wait: &[true, false],
+        wait: &[true, true],
     },
     // None is there.
     Case {
@@ -101,17 +111,32 @@ fn new_activations_wait_for_one_another_for_the_input_or_for_nobody(
     all_hold(&rt, &CASES)
 }
 
-/// Two activations, of which each reads what the other one writes.
-static CIRCLE: [&[Claim]; 2] = [
+/// The numbers of the activations of a case, of which none has an end.
+static READERS: [u32; 3] = [0, 1, 2];
+
+/// Two activations, of which each reads what the other one writes, and one that waits for nobody.
+static CIRCLE: [&[Claim]; 3] = [
     &[reads!(2, 1, 1, 0), writes!(3, 1)],
     &[reads!(3, 1, 1, 0), writes!(2, 1)],
+    &[writes!(1, 1)],
 ];
 
 #[test]
 fn activations_wait_in_a_circle_with_the_readers_before_them(rt: HostRuntime) -> Result<(), Fail> {
+    let layout = layout_of(rt.alloc(), 4, 0, &CIRCLE[..2])?;
+    assert!(rt; newest_wait(rt.alloc(), &layout, &READERS[..2], 0)?);
+    assert!(rt; newest_wait(rt.alloc(), &layout, &READERS[..2], 1)?);
+    Ok(())
+}
+
+#[test]
+fn a_circle_is_left_out_where_nothing_new_reaches_it(rt: HostRuntime) -> Result<(), Fail> {
     let layout = layout_of(rt.alloc(), 4, 0, &CIRCLE)?;
-    assert!(rt; newest_wait(rt.alloc(), &layout, &[], 0)?);
-    assert!(rt; newest_wait(rt.alloc(), &layout, &[0, 1], 1)?);
-    assert!(rt; !newest_wait(rt.alloc(), &layout, &[], 1)?);
+    let readers: [u32; 3] = [0, 1, 2];
+    assert!(rt; layout.frames() == readers.len());
+    let since = ready_since(rt.alloc(), &layout, &readers, 2)?;
+    assert!(rt; since.as_slice() == [2].as_slice());
+    let at_once = ready_since(rt.alloc(), &layout, &readers, 0)?;
+    assert!(rt; at_once.as_slice() == readers.as_slice());
     Ok(())
 }

@@ -1,6 +1,6 @@
 use Rattle.std.proofs.Common.{◌<◌, All, List, arith, length, subst, sym, ℕ}
 use Rattle.stream_match.proofs.Lowering.{streams_exist}
-use Rattle.stream_match_layouts.specs.Spans.{frame_count, spans_of}
+use Rattle.stream_match_layouts.specs.Spans.{frame_count}
 use Rattle.stream_match_layouts.specs.declared.span.Span.{Span}
 use Rattle.epoch_run_ready.specs.Newest.{marked_from}
 use Rattle.epoch_run_ready.proofs.AllWaiting.{has_mark}

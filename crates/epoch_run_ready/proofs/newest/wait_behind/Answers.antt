@@ -1,11 +1,7 @@
-use Rattle.std.proofs.Common.{◌<◌, List, length, subst, sym, ℕ}
-use Rattle.flow_core_epochs.proofs.Carried.{all_has}
-use Rattle.stream_match.proofs.Lowering.{streams_exist}
-use Rattle.stream_match_layouts.specs.Spans.{frame_count, spans_of}
-use Rattle.stream_match_layouts.specs.declared.span.Span.{Span}
+use Rattle.std.proofs.Common.{List, subst, sym, ℕ}
+use Rattle.stream_match_layouts.specs.Spans.{frame_count}
 use Rattle.epoch_run_ready.specs.Newest.{marked_from}
 use Rattle.epoch_run_ready.specs.Waiting.{AreMissing}
-use Rattle.epoch_run_ready.proofs.AllWaiting.{wait_all}
 use Rattle.epoch_run_ready.proofs.newest.wait_behind.Goals as goal
 
 pub wait_from-wait-requires-clause-missing : goal.wait_from-wait-requires-clause-missing
