@@ -13,8 +13,8 @@
 //! ones can't reach, neither by what they write nor through others: activations that wait for one another in a circle too, of which no one
 //! alone shows that it waits. The others are judged as `ready_frames` does.
 //!
-//! The promise of `ready_frames` and `ready_since` is `LeaveOutWaiting` of `flow_core_epochs`. They may leave in what can't run after all: the laws ask only that what
-//! is left out waits.
+//! The promise of `ready_frames` and `ready_since` is `LeaveOutWaiting` of `flow_core_epochs`, that of `newest_wait` is `WaitFrom`. They may leave in
+//! what can't run after all, and say no where all wait: the laws ask only that what is left out waits.
 #![tactic(auto)]
 
 mod circles;
