@@ -27,7 +27,6 @@ use task_vm::{Scratch, run_task};
 impl InOrder {
     /// Runs the next activation, which has this number, by its spans, if all that it reads is there. It answers whether it ran: if not, the
     /// ends and the streams are as they were. After `Memory` the run is to be given up.
-    #[inline(always)]
     pub(crate) fn run_next(
         &mut self,
         code: &Code,
