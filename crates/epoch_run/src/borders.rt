@@ -1,6 +1,6 @@
 //! Where the shares of a run begin.
 
-use crate::pace::RUNNING;
+use crate::pace::{Pace, RUNNING};
 use flow_core_laws::ACTIVATIONS_LIMIT;
 use stream_match::Layout;
 
@@ -16,18 +16,22 @@ const CREATING: u64 = 110;
 /// What it takes to create one and to pass it, in the same steps.
 const PASSING: u64 = 56;
 
+/// What it takes for each of its cells to put what a share came to behind those before it, in the same steps.
+const JOINING: u64 = 5;
+
 /// One, in the fractions in which weights are counted.
 const ONE: u64 = 1_024;
 
-/// Where the shares of a run begin, such that all end at about the same time: the worker of the first one has the control program create all
-/// activations and lays them out, and that of each other one passes those before its own.
+/// Where the shares of a run begin, such that each ends at about the time when those before it are joined: the worker of the first one has the
+/// control program create all activations and lays them out, and that of each other one passes those before its own.
 #[derive(Clone, Copy)]
 pub(crate) struct Borders {
     /// The number of the first activation.
     first: u32,
     /// About how many come from it on.
     all: u64,
-    /// What passing an activation takes of the time of running it, in fractions.
+    /// What passing an activation takes of the time of running it, in fractions, less what joining it takes: while the shares before its own are
+    /// joined, a worker still runs.
     passing: u64,
     /// How many activations run in the time that it takes to create all of them.
     creating: u64,
@@ -35,17 +39,18 @@ pub(crate) struct Borders {
 }
 
 impl Borders {
-    /// The borders of shares for so many workers behind the activations of a layout, which all ran, and whose bodies took so many steps each. The
-    /// first share begins before these end, since it may have to begin a few later.
-    pub(crate) fn behind(layout: &Layout, steps: u64, workers: u32) -> Borders {
+    /// The borders of shares for so many workers behind the activations of a layout, which all ran, at this pace. The first share begins before
+    /// these end, since it may have to begin a few later.
+    pub(crate) fn behind(layout: &Layout, pace: Pace, workers: u32) -> Borders {
         let ran = count_of(layout).min(ACTIVATIONS_LIMIT);
         let first = ran.saturating_sub(OVERLAP);
         let all = u64::from(expected(layout).saturating_sub(first));
-        let running = steps.saturating_add(RUNNING).max(1);
+        let running = pace.steps().saturating_add(RUNNING).max(1);
+        let joining = pace.cells().saturating_mul(JOINING);
         Borders {
             first,
             all,
-            passing: (ONE * PASSING / running).min(ONE),
+            passing: (ONE * PASSING.saturating_sub(joining) / running).min(ONE),
             creating: all.saturating_mul(CREATING) / running,
             count: workers.clamp(1, MOST_SHARES),
         }

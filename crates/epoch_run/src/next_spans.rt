@@ -107,23 +107,12 @@ impl NextSpans {
         } = self;
         let first = layout.spans.len() as u32;
         add_writers(&mut layout.writers, first, spans.as_slice())?;
-        add_copies(&mut layout.spans, spans.as_slice())?;
-        add_copies(&mut layout.starts, starts.as_slice())?;
+        layout.spans.extend_from_slice(spans.as_slice())?;
+        layout.starts.extend_from_slice(starts.as_slice())?;
         layout.reads = reads;
         layout.writes = writes;
         Ok(())
     }
-}
-
-/// Puts copies of items behind those of a list.
-fn add_copies<T: Copy + Drop>(list: &mut List<T>, items: &[T]) -> Result<(), Memory>
-    ensures { OnOk result (list.new ≡ list.old ++ items.now) }
-{
-    list.reserve(items.len())?;
-    for item in items {
-        list.push(*item)?;
-    }
-    Ok(())
 }
 
 /// Adds spans, which are numbered from a first one on, to the writers of their streams.

@@ -49,11 +49,7 @@ impl Pace {
 
     /// The pace behind so many more activations like those before them, whose bodies took so many steps together.
     pub(crate) fn behind_more(self, steps: u64, count: usize) -> Pace {
-        let cells = match self {
-            Pace::Steps { cells, .. } => cells,
-            Pace::Unknown => 0,
-        };
-        self.by(steps, count, cells)
+        self.by(steps, count, self.cells())
     }
 
     /// The pace of so many bodies that took so many steps together, of which each has so many cells. Where there are none it stays.
@@ -87,6 +83,14 @@ impl Pace {
     pub(crate) fn steps(self) -> u64 {
         match self {
             Pace::Steps { each, .. } => each,
+            Pace::Unknown => 0,
+        }
+    }
+
+    /// How many cells a plan has for each, as far as that is known.
+    pub(crate) fn cells(self) -> u64 {
+        match self {
+            Pace::Steps { cells, .. } => cells,
             Pace::Unknown => 0,
         }
     }

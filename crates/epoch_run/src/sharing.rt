@@ -59,7 +59,7 @@ pub(crate) fn share_out<'c, R: Threads + Sync>(
     if !apart {
         return Ok(false);
     }
-    let borders = Borders::behind(&run.layout, run.held.pace.steps(), workers);
+    let borders = Borders::behind(&run.layout, run.held.pace, workers);
     run_shares(
         rt,
         run,

@@ -12,7 +12,7 @@ use crate::cursors::cursor_of;
 use crate::in_order::InOrder;
 use crate::streams::Streams;
 use epoch_run_in_order_laws::laws::apart_and_joined;
-use flow_core_laws::{Elem, TaskEnd};
+use flow_core_laws::Elem;
 use os_io::{List, Memory};
 
 impl InOrder {
@@ -31,21 +31,11 @@ impl InOrder {
     {
         apart_and_joined();
         let past = self.ends.len() - apart.first as usize;
-        add_ends(&mut self.ends, &apart.order.ends.as_slice()[past..])?;
+        self.ends
+            .extend_from_slice(&apart.order.ends.as_slice()[past..])?;
         self.streams.join(&apart.order.streams)?;
         Ok(())
     }
-}
-
-/// Adds ends.
-fn add_ends(ends: &mut List<Option<TaskEnd>>, more: &[Option<TaskEnd>]) -> Result<(), Memory>
-    ensures { OnOk result (ends.new ≡ ends.old ++ more.now) }
-{
-    ends.reserve(more.len())?;
-    for end in more {
-        ends.push(*end)?;
-    }
-    Ok(())
 }
 
 impl Streams {
@@ -103,9 +93,5 @@ fn add_from(
     ensures { OnOk result (elements.new ≡ elements.old ++ drop past more.now) }
 {
     let (_, beyond) = more.split_at(past);
-    elements.reserve(beyond.len())?;
-    for element in beyond {
-        elements.push(*element)?;
-    }
-    Ok(())
+    elements.extend_from_slice(beyond)
 }

@@ -19,5 +19,7 @@ fn holds_what_is_pushed_and_written(rt: HostRuntime) -> Result<(), Fail> {
     assert!(rt; list.as_slice() == [2, 3, 5].as_slice());
     list.as_mut_slice().fill(7);
     assert!(rt; list.as_slice() == [7, 7, 7].as_slice());
+    list.extend_from_slice(&[11, 13])?;
+    assert!(rt; list.as_slice() == [7, 7, 7, 11, 13].as_slice());
     Ok(())
 }

@@ -104,3 +104,14 @@ impl<T: Drop> List<T> {
         Ok(())
     }
 }
+
+impl<T: Copy + Drop> List<T> {
+    /// Adds the items of a slice at the end. `Memory` leaves the list as it was.
+    pub fn extend_from_slice(&mut self, items: &[T]) -> Result<(), Memory>
+        ensures ok { OnOk result (self.new ≡ self.old ++ items.now) }
+        ensures err { OnErr result (self.new ≡ self.old) }
+    {
+        self.items.extend_from_slice(items)?;
+        Ok(())
+    }
+}

@@ -10,7 +10,7 @@ returns-clause-stands c = λ code all before input budget many stands stands_apa
     let past = c.len.result - first in
     joined_stands c.apart_and_joined.ensures.join code all before input budget first (length c.args.self.now.ends) c.args.self.now c.args.apart.now.order _
     refl c.requires.reaches c.requires.goes_on many
-    (c.in_ok-add_ends.ensures
+    (c.in_ok-extend_from_slice.ensures.ok
     ∙ ap (λ (es : List (Option TaskEnd)). c.args.self.now.ends ++ es)
     (take_rest c.as_slice.result.now past
     ∙ ap (λ (es : List (Option TaskEnd)). drop past es) c.as_slice.ensures
