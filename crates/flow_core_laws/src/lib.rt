@@ -44,6 +44,6 @@ pub use limits::{
     WORKERS_LIMIT,
 };
 pub use outcome::Outcome;
-pub use output::output_at;
+pub use output::output_element;
 pub use plan::{FramePlan, Piece, Plan};
 pub use task_end::TaskEnd;
