@@ -1,6 +1,7 @@
 //! What the machines make of a program beside what it means.
 
 ghost use Rattle.std.specs.Prelude.{◌≤◌, All};
+ghost use Rattle.flow_core_laws.specs.Limits.{budget_limit, input_limit};
 ghost use Rattle.os_code.specs.Codes.{parts_of};
 ghost use Rattle.os_code.specs.Tasks.{Fits};
 ghost use Rattle.task_vm.specs.Space.{IsMadeFor};
@@ -58,8 +59,8 @@ pub(crate) fn control_beside(
     input_len: u32,
     budget: u64,
 ) -> Control
-    requires input { input_len ≤ 4194304 }
-    requires budget { budget ≤ 1000000000 }
+    requires input { input_len ≤ input_limit }
+    requires budget { budget ≤ budget_limit }
     ensures fit { All (Fits (parts_of compiled.now.code)) result.activations }
 {
     let control = run_control(alloc, &compiled.code, input_len, budget).expect(rt, "memory");
@@ -76,8 +77,8 @@ pub(crate) fn runs_as_it_means(
     input_len: u32,
     budget: u64,
 )
-    requires input { input_len ≤ 4194304 }
-    requires budget { budget ≤ 1000000000 }
+    requires input { input_len ≤ input_limit }
+    requires budget { budget ≤ budget_limit }
 {
     control_beside(rt, alloc, compiled, input_len, budget);
 }
@@ -105,14 +106,14 @@ fn is_over(rt: &impl Abort, alloc: Global, program: &Program, input_len: u32, bu
 
 /// Runs a control program round the budget that just suffices, and its bodies.
 pub(crate) fn whole_beside(rt: &impl Abort, alloc: Global, text: &str, input_len: u32)
-    requires { input_len ≤ 4194304 }
+    requires { input_len ≤ input_limit }
 {
     let compiled = compile(rt, alloc, text);
     round_beside(rt, alloc, &compiled, input_len);
 }
 
 fn round_beside(rt: &impl Abort, alloc: Global, compiled: &Compiled, input_len: u32)
-    requires { input_len ≤ 4194304 }
+    requires { input_len ≤ input_limit }
 {
     let program = &compiled.checked.program;
     let least = sufficing(|budget| is_over(rt, alloc, program, input_len, budget));
@@ -134,7 +135,7 @@ fn body_made(
 ) -> (TaskEnd, Vec<i32>)
     requires fits { Fits (parts_of compiled.now.code) activation.now }
     requires made { IsMadeFor (parts_of compiled.now.code) scratch.old }
-    requires budget { budget ≤ 1000000000 }
+    requires budget { budget ≤ budget_limit }
     ensures made_again { IsMadeFor (parts_of compiled.now.code) scratch.new }
 {
     let inputs = inputs_of(rt, alloc, activation.claims.as_slice());
@@ -176,7 +177,7 @@ fn body_beside(
 )
     requires fits { Fits (parts_of compiled.now.code) activation.now }
     requires made { IsMadeFor (parts_of compiled.now.code) scratch.old }
-    requires budget { budget ≤ 1000000000 }
+    requires budget { budget ≤ budget_limit }
     ensures made_again { IsMadeFor (parts_of compiled.now.code) scratch.new }
 {
     let (end, outputs) = body_made(rt, alloc, compiled, activation, scratch, budget);
@@ -238,7 +239,7 @@ pub(crate) fn bodies_within(
     budget: u64,
 )
     requires fits { All (Fits (parts_of compiled.now.code)) control.now.activations }
-    requires budget { budget ≤ 1000000000 }
+    requires budget { budget ≤ budget_limit }
 {
     let mut scratch = Scratch::new(alloc, &compiled.code).expect(rt, "memory");
     for activation in control.activations.as_slice() {

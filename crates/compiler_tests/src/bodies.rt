@@ -1,6 +1,7 @@
 //! Each body of the tables beside what it means.
 
 ghost use Rattle.std.specs.Prelude.{◌≤◌};
+ghost use Rattle.flow_core_laws.specs.Limits.{input_limit};
 
 use crate::beside::whole_beside;
 use crate::statements::{BEFORE as ITEMS, STATEMENTS};
@@ -13,7 +14,7 @@ use std::process::Abort;
 
 /// A body behind the lines before it ends as it means, round the budgets that just suffice.
 fn body_beside(rt: &impl Abort, alloc: Global, before: &str, body: &str, input_len: u32)
-    requires { input_len ≤ 4194304 }
+    requires { input_len ≤ input_limit }
 {
     let mut text = String::new(alloc);
     push(rt, &mut text, before, 1);

@@ -8,7 +8,7 @@ use crate::beside::{bodies_beside, control_beside, runs_as_it_means, whole_besid
 use crate::compiled::{Compiled, compile};
 use crate::programs::PROGRAMS;
 use control_run::run_control;
-use flow_core_laws::Control;
+use flow_core_laws::{Control, INPUT_LIMIT};
 use meaning_tests::case::number;
 use meaning_tests::counted::{COUNTED, Counted};
 use meaning_tests::flows::FLOWS;
@@ -18,14 +18,12 @@ use std::process::Abort;
 
 /// The most that a budget may be.
 const MOST: u32 = 1_000_000_000;
-/// The longest input.
-const LONGEST: u32 = 4_194_304;
 
 /// What the control program of a run's row makes.
 fn run_beside(rt: &impl Abort, alloc: Global, compiled: &Compiled, run: &str) -> Control
     ensures fit { All (Fits (parts_of compiled.now.code)) result.activations }
 {
-    let input_len = number(run, 1).min(LONGEST);
+    let input_len = number(run, 1).min(INPUT_LIMIT);
     let budget = number(run, 2).min(MOST);
     control_beside(rt, alloc, compiled, input_len, u64::from(budget))
 }
@@ -79,7 +77,7 @@ fn control_programs_of_each_form_run_as_they_mean(rt: HostRuntime) {
 fn counts_so(rt: &impl Abort, alloc: Global, case: &Counted) {
     let (text, input_len, budget, count, end) = *case;
     let compiled = compile(rt, alloc, text);
-    let input_len = input_len.min(LONGEST);
+    let input_len = input_len.min(INPUT_LIMIT);
     let budget = budget.min(u64::from(MOST));
     let control = run_control(alloc, &compiled.code, input_len, budget).expect(rt, "memory");
     assert!(rt;

@@ -3,7 +3,7 @@ use Rattle.std.specs.Prelude.{◌≡◌, ℕ, ◌≤◌, List, ◌∷◌, ◌++�
 use Rattle.epoch_run_bodies.specs.Frames.{frame_outcome}
 use Rattle.epoch_run_in_order_laws.specs.Apart.{HaveEndedFrom, HoldWritten}
 use Rattle.epoch_run_in_order_laws.specs.InOrder.{HaveAllEnded, HoldElements}
-use Rattle.flow_core_laws.specs.Limits.{positions_limit}
+use Rattle.flow_core_laws.specs.Limits.{last_activation, positions_limit}
 use Rattle.flow_core_laws.specs.Outcome.{State, ends_of, outcome_of}
 use Rattle.flow_core_laws.specs.Poisoning.{least_root, values_of}
 use Rattle.flow_core_laws.specs.declared.elem.Elem.{Elem}
@@ -69,5 +69,5 @@ pub record AreNext (count : ℕ) (next : Activation) (spans : List Span) : Type 
   pub before : List Activation
   pub as_many : length before ≡ count
   pub are_theirs : spans ≡ map span_of (windows_of (before ++ next ∷ []) count)
-  pub early : count ≤ 65535
+  pub early : count ≤ last_activation
   pub few : sum_by (λ (s : Span). s.count) spans ≤ positions_limit

@@ -1,6 +1,7 @@
 //! Runs whose control program ends where an epoch is half made.
 
 ghost use Rattle.std.specs.Prelude.{◌≤◌};
+ghost use Rattle.flow_core_laws.specs.Limits.{workers_limit};
 
 use crate::compiled::compiled;
 use crate::ways::are_same;
@@ -84,7 +85,7 @@ fn run<R: Threads + Sync>(
     workers: u32,
 ) -> Option<RunResult>
     requires some { 1 ≤ activations }
-    requires workers { (1 ≤ workers) × (workers ≤ 64) }
+    requires workers { (1 ≤ workers) × (workers ≤ workers_limit) }
     requires budget { control ≤ 1000000 }
 {
     let budgets = Budgets { task: 10, control };
@@ -105,7 +106,7 @@ fn run_in_order<R: Threads + Sync>(
     control: u64,
     workers: u32,
 ) -> Option<RunResult>
-    requires workers { (1 ≤ workers) × (workers ≤ 64) }
+    requires workers { (1 ≤ workers) × (workers ≤ workers_limit) }
     requires budget { control ≤ 1000000 }
 {
     let budgets = Budgets { task: 10, control };

@@ -1,6 +1,7 @@
 //! Runs in control order that several workers share out.
 
 ghost use Rattle.std.specs.Prelude.{◌≤◌};
+ghost use Rattle.flow_core_laws.specs.Limits.{workers_limit};
 
 use crate::compiled::compiled;
 use crate::ways::are_same;
@@ -167,7 +168,7 @@ fn run<R: Threads + Sync, G: Gate>(
     workers: u32,
     gate: &G,
 ) -> Option<RunResult>
-    requires workers { (1 ≤ workers) × (workers ≤ 64) }
+    requires workers { (1 ≤ workers) × (workers ≤ workers_limit) }
     requires budget { control ≤ 1000000 }
 {
     let budgets = Budgets {

@@ -1,8 +1,10 @@
 //! The ways of a run: in epochs of each size, and in control order.
 
 ghost use Rattle.std.specs.Prelude.{◌≤◌};
+ghost use Rattle.flow_core_laws.specs.Limits.{workers_limit};
 
 use epoch_run::{Budgets, EpochSize, RunResult, run_epochs, run_epochs_of};
+use flow_core_laws::INPUT_LIMIT;
 use os_code::Code;
 use std::alloc::Global;
 use std::process::Abort;
@@ -66,7 +68,7 @@ fn run<R: Threads + Sync + Abort>(
     workers: u32,
 ) -> RunResult
     requires some { 1 ≤ size.activations }
-    requires workers { (1 ≤ workers) × (workers ≤ 64) }
+    requires workers { (1 ≤ workers) × (workers ≤ workers_limit) }
 {
     let Job {
         text,
@@ -74,7 +76,7 @@ fn run<R: Threads + Sync + Abort>(
         input,
         turns,
     } = job;
-    assert!(rt; input.len() <= 4_194_304 && turns <= 1_000_000);
+    assert!(rt; input.len() <= INPUT_LIMIT as usize && turns <= 1_000_000);
     let budgets = Budgets {
         task: turns,
         control: 1_000_000,
@@ -89,7 +91,7 @@ fn run_in_order<R: Threads + Sync + Abort>(
     job: Job<'_>,
     workers: u32,
 ) -> RunResult
-    requires { (1 ≤ workers) × (workers ≤ 64) }
+    requires { (1 ≤ workers) × (workers ≤ workers_limit) }
 {
     let Job {
         text,
@@ -97,7 +99,7 @@ fn run_in_order<R: Threads + Sync + Abort>(
         input,
         turns,
     } = job;
-    assert!(rt; input.len() <= 4_194_304 && turns <= 1_000_000);
+    assert!(rt; input.len() <= INPUT_LIMIT as usize && turns <= 1_000_000);
     let budgets = Budgets {
         task: turns,
         control: 1_000_000,

@@ -18,9 +18,9 @@ end_at ends frame = slice_index_or ends frame None
 
 -- The element of a source that a run shows: an initial one, or one of a frame that has an end.
 abbrev pub shown : (ℕ → ℕ) → List (Option TaskEnd) → State → Source → Option Elem
-shown number_of ends meaning (initial elem) = Some elem
-shown number_of ends meaning (fed frame place) = if is_some (end_at ends frame) then output_at number_of meaning frame place else None
-shown number_of ends meaning nobody = None
+shown numbers ends meaning (initial elem) = Some elem
+shown numbers ends meaning (fed frame place) = if is_some (end_at ends frame) then output_at numbers meaning frame place else None
+shown numbers ends meaning nobody = None
 
 -- The ends are the meaning's, and the cells hold what the frames with an end gave.
 pub record Shows (plan : Plan) (meaning : State) (cells : List (Option Elem)) (ends : List (Option TaskEnd)) : Type 0 where

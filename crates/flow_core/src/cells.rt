@@ -7,7 +7,7 @@ ghost use Rattle.flow_core_laws.specs.Poisoning.{values_of, least_root};
 ghost use Rattle.flow_core.specs.Counted.{HasOutputs};
 ghost use Rattle.flow_core.specs.Gathered.{AreGathered};
 
-use flow_core_laws::{Elem, Piece, lesser, output_at};
+use flow_core_laws::{Elem, Piece, lesser, output_element};
 use os_io::Memory;
 
 /// Puts the elements of a piece into its cells.
@@ -24,7 +24,7 @@ pub(crate) fn fill(cells: &mut Vec<Option<Elem>>, piece: Piece, root: Option<u32
     let first = piece.first as usize;
     let at = piece.at as usize;
     for k in 0..piece.count as usize {
-        cells[at + k] = Some(output_at(root, outputs, first + k));
+        cells[at + k] = Some(output_element(root, outputs, first + k));
     }
 }
 

@@ -15,14 +15,14 @@ use Rattle.flow_core_laws.specs.Plans.{number_at}
 use Rattle.flow_core_laws.specs.StandsFor.{StandsFor}
 
 -- an element that is there stays as more activations get outcomes
-pub element_kept : (number_of : ℕ → ℕ) → IsKept (element number_of)
-element_kept number_of s t e (initial w) v h = h
-element_kept number_of s t e (fed a k) v h = output_more (outcome_at s a) refl
+pub element_kept : (numbers : ℕ → ℕ) → IsKept (element numbers)
+element_kept numbers s t e (initial w) v h = h
+element_kept numbers s t e (fed a k) v h = output_more (outcome_at s a) refl
   where
-    output_more : (o : Option Outcome) → outcome_at s a ≡ o → option_and_then (λ (q : Outcome). written (number_of a) q k) (outcome_at t a) ≡ Some v
-    output_more None is = let z : ◌≡◌ {A = Option Elem} None (Some v) = sym (ap (option_and_then (λ (q : Outcome). written (number_of a) q k)) is) ∙ h in absurd (cc)
-    output_more (Some o) is = ap (option_and_then (λ (q : Outcome). written (number_of a) q k)) (e a o is) ∙ sym (ap (option_and_then (λ (q : Outcome). written (number_of a) q k)) is) ∙ h
-element_kept number_of s t e nobody v h = absurd (cc)
+    output_more : (o : Option Outcome) → outcome_at s a ≡ o → option_and_then (λ (q : Outcome). written (numbers a) q k) (outcome_at t a) ≡ Some v
+    output_more None is = let z : ◌≡◌ {A = Option Elem} None (Some v) = sym (ap (option_and_then (λ (q : Outcome). written (numbers a) q k)) is) ∙ h in absurd (cc)
+    output_more (Some o) is = ap (option_and_then (λ (q : Outcome). written (numbers a) q k)) (e a o is) ∙ sym (ap (option_and_then (λ (q : Outcome). written (numbers a) q k)) is) ∙ h
+element_kept numbers s t e nobody v h = absurd (cc)
 
 -- a stretch of numbers at its places
 at_itself : (from n f : ℕ) → get_or (range_with_len from n) f (from + f) ≡ from + f

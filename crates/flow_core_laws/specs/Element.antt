@@ -26,10 +26,10 @@ written number outcome place = output_element (root_of number outcome.end) outco
 -- An output element of an activation in a state: it is there where the activation has an end. The numbers by
 -- which poison names its roots are given for each activation.
 abbrev pub output_at : (ℕ → ℕ) → State → ℕ → ℕ → Option Elem
-output_at number_of state activation place = option_and_then (λ (o : Outcome). written (number_of activation) o place) (outcome_at state activation)
+output_at numbers state activation place = option_and_then (λ (o : Outcome). written (numbers activation) o place) (outcome_at state activation)
 
 -- The element of a source in a state, if it is there.
 abbrev pub element : (ℕ → ℕ) → State → Source → Option Elem
-element number_of state (initial elem) = Some elem
-element number_of state (fed activation place) = output_at number_of state activation place
-element number_of state nobody = None
+element numbers state (initial elem) = Some elem
+element numbers state (fed activation place) = output_at numbers state activation place
+element numbers state nobody = None

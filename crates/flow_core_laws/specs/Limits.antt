@@ -9,6 +9,10 @@ input_limit = 4194304
 abbrev pub activations_limit : ℕ
 activations_limit = 65536
 
+-- the greatest number of an activation, counted from 0 on
+abbrev pub last_activation : ℕ
+last_activation = 65535
+
 -- the positions that the windows of a run cover together
 abbrev pub positions_limit : ℕ
 positions_limit = 4194304

@@ -40,10 +40,10 @@ pub use elem::Elem;
 pub use ends::Ends;
 pub use least_root::lesser;
 pub use limits::{
-    ACTIVATIONS_LIMIT, BUDGET_LIMIT, HORIZON_LIMIT, INPUT_LIMIT, MOVE_LIMIT, POSITIONS_LIMIT,
-    WORKERS_LIMIT,
+    ACTIVATIONS_LIMIT, BUDGET_LIMIT, HORIZON_LIMIT, INPUT_LIMIT, LAST_ACTIVATION, MOVE_LIMIT,
+    POSITIONS_LIMIT, WORKERS_LIMIT,
 };
 pub use outcome::Outcome;
-pub use output::output_at;
+pub use output::output_element;
 pub use plan::{FramePlan, Piece, Plan};
 pub use task_end::TaskEnd;

@@ -4,6 +4,8 @@
 pub const INPUT_LIMIT: u32 = 4_194_304;
 /// The most activations of a run.
 pub const ACTIVATIONS_LIMIT: u32 = 65_536;
+/// The greatest number of an activation, counted from 0 on.
+pub const LAST_ACTIVATION: u32 = 65_535;
 /// The most positions that the windows of a run cover together.
 pub const POSITIONS_LIMIT: u32 = 4_194_304;
 /// The most positions that a window covers.

@@ -2,6 +2,7 @@
 use Rattle.std.specs.Prelude.{ℕ, ◌+◌, ◌-◌, min, Bool, true, false, not, ◌==◌, ◌&&◌, nat_le, nat_lt}
 use Rattle.std.specs.Prelude.{List, [], ◌∷◌, ◌++◌, length, filter, sum_by, Option, Some, None, ℤ, pos}
 use Rattle.c_int.specs.declared.operators.Binary.TheVariants as binary
+use Rattle.flow_core_laws.specs.Limits.{horizon_limit}
 use Rattle.flow_core_laws.specs.declared.claim.Claim.{Claim}
 use Rattle.os_code.specs.declared.instr.Instr.{Instr}
 use Rattle.os_code.specs.declared.instr.Instr.TheVariants.{Push, Copy, Load, Store, Binary, Return, End}
@@ -44,7 +45,7 @@ single_fits (Some slot) horizon = true
 
 abbrev pub claim_fits : SiteItem → Claim → Bool
 claim_fits item claim =
-    same_bool item.write claim.write && nat_lt claim.stream 3 && nat_le 1 claim.horizon && nat_le claim.horizon 65536
+    same_bool item.write claim.write && nat_lt claim.stream 3 && nat_le 1 claim.horizon && nat_le claim.horizon horizon_limit
     && single_fits item.window claim.horizon
 
 abbrev pub claims_fit : List SiteItem → List Claim → Bool

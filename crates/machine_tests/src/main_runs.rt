@@ -1,6 +1,7 @@
 //! Runs of `main` in codes written out, whose task ends at once.
 
 ghost use Rattle.std.specs.Prelude.{◌≡◌, ◌≤◌, length, true};
+ghost use Rattle.flow_core_laws.specs.Limits.{budget_limit, input_limit};
 ghost use Rattle.os_code.specs.Checking.{is_valid};
 ghost use Rattle.machine_tests.specs.Written.{written};
 
@@ -24,8 +25,8 @@ pub(crate) fn run_written(
     requires some { 1 ≤ length units.now }
     requires few { length units.now ≤ 1000 }
     requires valid { is_valid (written instrs.now units.now 0 captured.now items.now) ≡ true }
-    requires input { input_len ≤ 4194304 }
-    requires budget { budget ≤ 1000000000 }
+    requires input { input_len ≤ input_limit }
+    requires budget { budget ≤ budget_limit }
 {
     let code = code_of(alloc, instrs, units, 0, captured, items)?;
     run_control(alloc, &code, input_len, budget)

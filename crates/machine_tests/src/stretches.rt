@@ -1,6 +1,7 @@
 //! Control programs by stretches: what the calls give together, and when they tell that no more activations come.
 
 ghost use Rattle.std.specs.Prelude.{◌≤◌};
+ghost use Rattle.flow_core_laws.specs.Limits.{budget_limit};
 
 use crate::controls::loop_code;
 use control_run::{ControlRun, run_control};
@@ -55,7 +56,7 @@ fn in_stretches(
     budget: u64,
     at_most: u32,
 ) -> Result<Option<(Control, u64, u64)>, Memory>
-    requires budget { budget ≤ 1000000000 }
+    requires budget { budget ≤ budget_limit }
     requires some { 1 ≤ at_most }
 {
     let mut run = ControlRun::new(alloc, code, 0, budget)?;

@@ -1,6 +1,7 @@
 //! Tasks written out, which run twice with one scratch.
 
 ghost use Rattle.std.specs.Prelude.{◌≡◌, ◌≤◌, length, true, IfOk};
+ghost use Rattle.flow_core_laws.specs.Limits.{budget_limit};
 ghost use Rattle.os_code.specs.Checking.{is_valid};
 ghost use Rattle.machine_tests.specs.Written.{is_run, written};
 
@@ -51,8 +52,8 @@ pub(crate) fn run_twice(
     requires valid { is_valid (written instrs.now units.now task captured.now items.now) ≡ true }
     requires first { is_run captured.now items.now first.0.now claims.now (length inputs.now) (length outputs.old) ≡ true }
     requires second { is_run captured.now items.now second.0.now claims.now (length inputs.now) (length outputs.old) ≡ true }
-    requires budget { first.1 ≤ 1000000000 }
-    requires other_budget { second.1 ≤ 1000000000 }
+    requires budget { first.1 ≤ budget_limit }
+    requires other_budget { second.1 ≤ budget_limit }
 {
     let code = code_of(alloc, instrs, units, task, captured, items)?;
     let mut scratch = Scratch::new(alloc, &code)?;

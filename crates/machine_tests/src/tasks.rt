@@ -13,7 +13,7 @@ mod table;
 use crate::task_runs::{Ran, run_twice};
 use alone::run_alone;
 use drawn::DRAWN;
-use flow_core_laws::{Claim, TaskEnd};
+use flow_core_laws::{BUDGET_LIMIT, Claim, TaskEnd};
 use forms::{FORMS, FORMS_OF_WINDOWS_AND_OPERATORS};
 use os_code::{Binary, Instr, SiteItem, Unary, Unit};
 use os_io::Memory;
@@ -198,8 +198,8 @@ fn deep(
         &items,
         &claims,
         &[],
-        (&[first.0], first.1.min(1000000000)),
-        (&[second.0], second.1.min(1000000000)),
+        (&[first.0], first.1.min(BUDGET_LIMIT)),
+        (&[second.0], second.1.min(BUDGET_LIMIT)),
         &mut outputs,
     )?;
     Ok((one, other, outputs))

@@ -2,7 +2,9 @@
 use Rattle.std.specs.Prelude.{◌≡◌, ◌≢◌, ◌⊎◌, ℕ, List, IfSome}
 use Rattle.os_io.specs.declared.files.Files.{Ghosts as FilesView}
 use Rattle.os_io.specs.declared.sink.Sink.{Ghosts as SinkView}
+use Rattle.osrun_core_jobs.specs.Status.{code_of}
 use Rattle.osrun_core_jobs.specs.Telling.{IsCutShort, Took}
+use Rattle.osrun_core_jobs.specs.declared.status.Status.TheVariants as statuses
 use Rattle.os_serve_answers.specs.Replies.{AreReplies, JobRun}
 use Rattle.os_serve_jobs.specs.Answers.{Reply, answers}
 use Rattle.os_serve_jobs.specs.Lines.{AreFirstJobs, AreJobs}
@@ -12,11 +14,12 @@ abbrev pub HaveReplies : {F : Type 0} → JobRun F → (files_old files_new : F)
 HaveReplies run files_old files_new said =
     (lines : List (List ℕ)) × (replies : List Reply) × AreReplies run files_old files_new lines replies × said lines replies
 
--- The lines are the first jobs of the file, where it tells what it holds, and with the statuses 0 and 4 all of them. The output took
--- the answers to them, in their order, each once and none else; with the status 6 it took a front of that, and not all.
+-- The lines are the first jobs of the file, where it tells what it holds, and with the statuses AllDone (0) and TooLong (4) all of them.
+-- The output took the answers to them, in their order, each once and none else; with WriteFault (6) it took a front of that, and not all.
 pub record AnswersJobs {J O : Type 0} (of_jobs : FilesView J) (jobs_old : J) (of_out : SinkView O) (out_old out_new : O) (name : List ℕ)
     (status : ℕ) (lines : List (List ℕ)) (replies : List Reply) : Type 0 where
   pub first : IfSome (of_jobs.holds jobs_old name) (λ held. AreFirstJobs held lines)
-  pub all : (status ≡ 0) ⊎ (status ≡ 4) → IfSome (of_jobs.holds jobs_old name) (λ held. AreJobs held lines)
-  pub took : status ≢ 6 → Took of_out out_old out_new (answers replies)
-  pub cut_short : status ≡ 6 → IsCutShort of_out out_old out_new (answers replies)
+  pub all : (status ≡ code_of statuses.AllDone) ⊎ (status ≡ code_of statuses.TooLong)
+      → IfSome (of_jobs.holds jobs_old name) (λ held. AreJobs held lines)
+  pub took : status ≢ code_of statuses.WriteFault → Took of_out out_old out_new (answers replies)
+  pub cut_short : status ≡ code_of statuses.WriteFault → IsCutShort of_out out_old out_new (answers replies)

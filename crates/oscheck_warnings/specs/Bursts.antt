@@ -1,6 +1,7 @@
 -- Bursts of output items that are constants and that trap.
 use Rattle.std.specs.Prelude.{◌≡◌, ◌≢◌, ◌<◌, ◌≤◌, ◌==◌, ℕ, Bool, true, false, if◌then◌else◌, List, [], ◌∷◌, Option, Some, None}
 use Rattle.std.specs.List.{slice_get}
+use Rattle.flow_core_laws.specs.Limits.{horizon_limit}
 use Rattle.os_ast.specs.declared.names.What.{What}
 use Rattle.os_ast.specs.declared.names.What.TheVariants as what
 use Rattle.oscheck_warnings.specs.Places.{has}
@@ -49,7 +50,7 @@ pub record IsWrongBurst (list : List Extent) (means : ℕ → Option What) (plac
   pub is : means place ≡ Some (what.Window slot)
   pub sized : size_of list means slot ≡ Some (amount.Number size)
   pub some : 0 < size
-  pub fits : size ≤ 65536
+  pub fits : size ≤ horizon_limit
   pub differs : burst.amount ≢ amount.Number size
 
 -- it is marked where there is such a burst

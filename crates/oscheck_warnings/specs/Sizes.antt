@@ -1,7 +1,8 @@
 -- Sizes of windows as they are kept, and the test of a burst.
-use Rattle.std.specs.Prelude.{◌≡◌, ◌==◌, ◌&&◌, ltb, not, ℕ, Bool, true, false, List, Option, Some, None}
+use Rattle.std.specs.Prelude.{◌≡◌, ◌==◌, ◌&&◌, ltb, not, ℕ, suc, Bool, true, false, List, Option, Some, None}
 use Rattle.std.specs.BTreeMap.{get}
 use Rattle.std.specs.Ordering.{nat_cmp}
+use Rattle.flow_core_laws.specs.Limits.{horizon_limit}
 use Rattle.os_ast.specs.declared.names.What.{What}
 use Rattle.oscheck_warnings.specs.Bursts.{window_of, sized_window, size_of}
 use Rattle.oscheck_warnings.specs.declared.bursts.Sizes.{Sizes}
@@ -30,7 +31,7 @@ is_other size (amount.Number n) = not (size == n)
 is_other size amount.BelowZero = true
 
 abbrev pub differs_from : ℕ → Amount → Bool
-differs_from size burst = ltb 0 size && (ltb size 65537 && is_other size burst)
+differs_from size burst = ltb 0 size && (ltb size (suc horizon_limit) && is_other size burst)
 
 abbrev pub differs : Option Amount → Amount → Bool
 differs None burst = false

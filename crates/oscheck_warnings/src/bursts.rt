@@ -11,6 +11,7 @@ use crate::extent::{Amount, Bracket, Extent};
 use crate::extents::extents;
 use crate::meanings::Meanings;
 use crate::places::Places;
+use flow_core_laws::HORIZON_LIMIT;
 use os_ast::{Program, Resolved, What};
 use os_io::Memory;
 use std::alloc::Global;
@@ -106,7 +107,7 @@ fn is_other(size: u32, burst: Amount) -> bool
 fn differs_from(size: u32, burst: Amount) -> bool
     ensures { result ≡ differs_from size burst }
 {
-    0 < size && size < 65537 && is_other(size, burst)
+    0 < size && size < HORIZON_LIMIT + 1 && is_other(size, burst)
 }
 
 /// Whether a burst is another amount than a size that a window can have, where the size is a constant.

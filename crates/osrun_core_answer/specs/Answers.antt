@@ -38,11 +38,11 @@ pub record IsGiven {F O E : Type 0} (of_files : FilesView F) (files_old files_ne
   pub report : TookLines of_report report_old report_new made.outcome.told
   pub own : status ≡ made.outcome.own
 
--- 6: a sink did not take all of it. What was meant to be given is that of a status below 2.
+-- 6: a sink did not take all of it. What was meant to be given is that of a status below BadWords (2).
 pub record IsCut {F O E : Type 0} (of_files : FilesView F) (files_old files_new : F) (of_out : SinkView O) (out_old out_new : O)
     (of_report : SinkView E) (report_old report_new : E) (asked : Option Request) : Type 0 where
   pub made : IsMade of_files files_old files_new asked
-  pub own : made.outcome.own < 2
+  pub own : made.outcome.own < code_of statuses.BadWords
   pub undelivered : IsUndelivered of_out out_old out_new made.outcome.output of_report report_old report_new made.outcome.told
 
 -- 2: nothing is asked for, which is told; no file was touched.
@@ -113,7 +113,7 @@ pub record AnswersRequest {F O E : Type 0} (of_files : FilesView F) (files_old f
   pub reads : ReadsInOrder IsUsable of_files files_old files_new (asked_files asked)
   -- Completeness: where all files are told, within their limits and usable, none is told to be the cause but by a fault.
   pub complete : (request : Request) → asked ≡ Some request → All (IsReadable IsUsable (of_files.holds files_old)) (files_of request)
-      → (status < 2) ⊎ (5 ≤ status)
+      → (status < code_of statuses.BadWords) ⊎ (code_of statuses.ReadFault ≤ status)
   -- Where the first file is told and within its limit, and its bytes are refused, that is told, unless a read failed or memory ran out.
   pub rejected : (file : JobFile) → slice_get (asked_files asked) 0 ≡ Some file → IsRejected IsUnusable (of_files.holds files_old) file
-      → (status ≡ 3) ⊎ ((status ≡ 5) ⊎ (status ≡ 7))
+      → (status ≡ code_of statuses.Refused) ⊎ ((status ≡ code_of statuses.ReadFault) ⊎ (status ≡ code_of statuses.NoMemory))

@@ -1,6 +1,6 @@
 -- The jobs that words may name.
 use Rattle.std.specs.Prelude.{◌≤◌, ℕ, List, Option, Some, None}
-use Rattle.flow_core_laws.specs.Limits.{budget_limit, workers_limit}
+use Rattle.flow_core_laws.specs.Limits.{budget_limit, last_activation, workers_limit}
 use Rattle.osrun_core_jobs.specs.declared.job.CompileJob.{CompileJob as LentCompile}
 use Rattle.osrun_core_jobs.specs.declared.job.ExecJob.{ExecJob as LentExec}
 use Rattle.osrun_core_jobs.specs.declared.job.ExplainJob.{ExplainJob as LentExplain}
@@ -185,7 +185,7 @@ pub record IsExecWithin (job : ExecJob) : Type 0 where
   pub control_turns : job.control_budget ≤ budget_limit
 
 pub record IsExplainWithin (job : ExplainJob) : Type 0 where
-  pub few_activations : job.activation ≤ 65535
+  pub few_activations : job.activation ≤ last_activation
   pub some_workers : 1 ≤ job.workers
   pub few_workers : job.workers ≤ workers_limit
   pub task_turns : job.task_budget ≤ budget_limit

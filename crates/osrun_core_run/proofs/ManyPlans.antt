@@ -40,7 +40,7 @@ module _ (activations : List Activation) (input : List ℕ) (outcome : ℕ → L
       ap (λ (p : FramePlan). map (cell_source plan) (range_with_len p.cell p.inputs)) (sink_at plan f past ∙ sym (sink_at plan (length plan.frames) (omega arith)))
 
   abbrev by_numbers : (ℕ → ℕ) → State → Source → Option Elem
-  by_numbers number_of state source = element number_of state source
+  by_numbers numbers state source = element numbers state source
 
   module _ (one other : Plan) (stands : StandsFor one activations input) (too : StandsFor other activations input) where
     as_many : length one.frames ≡ length other.frames

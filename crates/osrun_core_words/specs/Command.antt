@@ -1,6 +1,6 @@
 -- What the words of a command name.
 use Rattle.std.specs.Prelude.{List, [], ◌∷◌, Option, Some, None, codes, find, map, option_and_then, string_bytes}
-use Rattle.flow_core_laws.specs.Limits.{budget_limit, workers_limit}
+use Rattle.flow_core_laws.specs.Limits.{budget_limit, last_activation, workers_limit}
 use Rattle.std.specs.Str.{bytes_eq}
 use Rattle.std.specs.declared.string.String.{String}
 use Rattle.std.specs.declared.alloc.Global.{Global}
@@ -82,7 +82,7 @@ abbrev pub explain_form : CommandForm
 explain_form = record {
   word = codes "explain";
   arguments =
-      name (codes "PROGRAM") ∷ name (codes "INPUT") ∷ number (codes "ACTIVATION") 0 65535 ∷ workers ∷ task_budget ∷ control_budget ∷ [];
+      name (codes "PROGRAM") ∷ name (codes "INPUT") ∷ number (codes "ACTIVATION") 0 last_activation ∷ workers ∷ task_budget ∷ control_budget ∷ [];
   request = λ rows. Explain (record {
     program = name_in rows (codes "PROGRAM");
     input = name_in rows (codes "INPUT");

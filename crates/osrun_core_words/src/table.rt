@@ -1,5 +1,5 @@
 use crate::argument::Argument;
-use flow_core_laws::{BUDGET_LIMIT, WORKERS_LIMIT};
+use flow_core_laws::{BUDGET_LIMIT, LAST_ACTIVATION, WORKERS_LIMIT};
 
 /// A command: the first word, which picks it, and what it takes.
 #[derive(Clone, Copy)]
@@ -63,7 +63,7 @@ pub const BLOCKS: Argument<'static> = Argument::Number {
 pub const ACTIVATION: Argument<'static> = Argument::Number {
     id: "ACTIVATION",
     least: 0,
-    most: 65_535,
+    most: LAST_ACTIVATION as u64,
 };
 
 /// Runs a program over an input.

@@ -1,5 +1,5 @@
 ghost use Rattle.std.specs.Prelude.{◌≡◌, ◌+◌, ◌^◌, ◌<◌, ◌≤◌, ℕ, All, IfOk, length, max, min, slice_index_or, slice_set, sum, ◌*◌};
-ghost use Rattle.flow_core_laws.specs.Limits.{activations_limit};
+ghost use Rattle.flow_core_laws.specs.Limits.{activations_limit, last_activation};
 ghost use Rattle.std.specs.Option.{option_map_or};
 ghost use Rattle.osview_steps.specs.Counting.{IsSmall, IsTallyOf, counted, nothing_counted};
 ghost use Rattle.osview_steps.specs.Steps.{steps_if};
@@ -43,7 +43,7 @@ impl Tally {
 
     /// This with one more activation, with what it took if it ran.
     fn with(self, took: Option<Taken>) -> Tally
-        requires { IsSmall 65535 self }
+        requires { IsSmall last_activation self }
         ensures exact { result ≡ counted self took }
         ensures small { (n : ℕ) → IsSmall n self → IsSmall (n + 1) result }
     {
@@ -94,7 +94,7 @@ pub(crate) fn plus(sum: u128, steps: u64) -> u128
 /// Counts one more activation.
 fn count(tallies: &mut List<Tally>, run: TaskRun)
     requires inside { run.task < length tallies.old }
-    requires small { IsSmall 65535 (slice_index_or tallies.old run.task nothing_counted) }
+    requires small { IsSmall last_activation (slice_index_or tallies.old run.task nothing_counted) }
     ensures counted { tallies.new ≡ slice_set tallies.old run.task (counted (slice_index_or tallies.old run.task nothing_counted) run.took) }
     ensures small { (n : ℕ) → IsSmall n (slice_index_or tallies.old run.task nothing_counted)
         → IsSmall (n + 1) (counted (slice_index_or tallies.old run.task nothing_counted) run.took) }

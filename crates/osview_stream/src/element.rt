@@ -43,8 +43,13 @@ fn value_at(outcomes: &Outcomes, activation: u32, place: usize) -> Option<i32>
     }
 }
 
-/// The output element of an activation with an end at a place.
-fn output_at(outcomes: &Outcomes, activation: u32, root: Option<u32>, place: usize) -> Option<Elem>
+/// The output element of an activation at a place, by the root of its end.
+fn output_element(
+    outcomes: &Outcomes,
+    activation: u32,
+    root: Option<u32>,
+    place: usize,
+) -> Option<Elem>
     ensures { result ≡ output_element root (slice_index_or outcomes.now.outputs activation []) place }
 {
     if let Some(root) = root {
@@ -61,7 +66,7 @@ fn written_at(outcomes: &Outcomes, activation: u32, place: usize) -> Option<Elem
     ensures { result ≡ given_by outcomes.now activation place }
 {
     match end_of(outcomes, activation) {
-        Some(end) => output_at(outcomes, activation, end.root(activation), place),
+        Some(end) => output_element(outcomes, activation, end.root(activation), place),
         None => None,
     }
 }

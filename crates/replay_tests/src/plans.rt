@@ -1,10 +1,12 @@
 //! Plans of activations that are nothing but their claims, without input, and replays over them.
 ghost use Rattle.std.specs.Prelude.{◌≡◌, ◌≤◌, ◌<◌, ◌^◌, All, IfOk, length, true};
 ghost use Rattle.flow_core_laws.specs.IsSound.{IsSound};
+ghost use Rattle.flow_core_laws.specs.Limits.{workers_limit};
 ghost use Rattle.stream_match_layouts.specs.Layout.{IsLayout};
 
 use crate::lasts::Lasts;
 use flow_core::{Activation, Claim, Plan};
+use flow_core_laws::WORKERS_LIMIT;
 use lawful_layouts::lawful_layout;
 use os_io::{List, Memory};
 use std::alloc::Global;
@@ -59,10 +61,10 @@ pub(crate) fn replayed(
 
 /// Whether lists are as many and as short as they may be.
 fn may_replay(lists: &[List<u32>]) -> bool
-    ensures count { result ≡ true → (1 ≤ length lists.now) × (length lists.now ≤ 64) }
+    ensures count { result ≡ true → (1 ≤ length lists.now) × (length lists.now ≤ workers_limit) }
     ensures short { result ≡ true → All (λ list. length list < 2 ^ 32) lists.now }
 {
-    if lists.is_empty() || lists.len() > 64 {
+    if lists.is_empty() || lists.len() > WORKERS_LIMIT as usize {
         return false;
     }
     for list in lists {

@@ -1,6 +1,7 @@
 //! Lists that workers left.
 ghost use Rattle.std.specs.Prelude.{◌≤◌, IfOk};
 ghost use Rattle.flow_core_laws.specs.IsSound.{IsSound};
+ghost use Rattle.flow_core_laws.specs.Limits.{workers_limit};
 
 use crate::lasts::Lasts;
 use crate::plans::{activation, plan_of, replayed};
@@ -99,7 +100,7 @@ fn runs_again<R: Threads + Sync>(
     workers: u32,
 ) -> Result<bool, Memory>
     requires sound { IsSound plan.now }
-    requires workers { (1 ≤ workers) × (workers ≤ 64) }
+    requires workers { (1 ≤ workers) × (workers ≤ workers_limit) }
 {
     let Logged { ends, lists } = logged(rt, alloc, plan, workers, &NoGate)?;
     match replayed(alloc, plan, lists.as_slice(), true)? {
@@ -123,7 +124,7 @@ fn logged<R: Threads + Sync, G: Gate>(
     gate: &G,
 ) -> Result<Logged, Memory>
     requires sound { IsSound plan.now }
-    requires workers { (1 ≤ workers) × (workers ≤ 64) }
+    requires workers { (1 ≤ workers) × (workers ≤ workers_limit) }
 {
     let bodies = Lasts {
         plan,

@@ -2,6 +2,7 @@
 //! one thread, and those that a count by hand gives.
 ghost use Rattle.std.specs.Prelude.{◌≤◌, IfOk};
 ghost use Rattle.flow_core_laws.specs.IsSound.{IsSound};
+ghost use Rattle.flow_core_laws.specs.Limits.{workers_limit};
 
 mod lasts;
 mod logs;
@@ -10,6 +11,7 @@ mod stealing;
 use crate::activations::{activation_of, laid_out, plan_over};
 use crate::rounds::lasts::Lasts;
 use flow_core::{Activation, Claim, Elem, Ends, Plan, TaskEnd, execute_one};
+use flow_core_laws::WORKERS_LIMIT;
 use os_io::Memory;
 use std::alloc::Global;
 use std::process::Abort;
@@ -307,7 +309,7 @@ fn runs_by_rounds<R: Threads + Abort + Sync>(
     one: &Ends,
 ) -> Result<(), Memory>
     requires sound { IsSound plan.now }
-    requires workers { (1 ≤ workers) × (workers ≤ 64) }
+    requires workers { (1 ≤ workers) × (workers ≤ workers_limit) }
 {
     let bodies = Lasts {
         plan,
@@ -330,7 +332,7 @@ fn runs_at_once<R: Threads + Abort + Sync>(
     one: &Ends,
 ) -> Result<(), Memory>
     requires sound { IsSound plan.now }
-    requires workers { (1 ≤ workers) × (workers ≤ 64) }
+    requires workers { (1 ≤ workers) × (workers ≤ workers_limit) }
 {
     let bodies = Lasts {
         plan,
@@ -411,7 +413,7 @@ static MEETINGS: [Case<'static>; 2] = [
 fn runs_as_many_frames_at_once_as_workers(rt: HostRuntime) -> Result<(), Fail> {
     for case in &MEETINGS {
         let workers = case.activations;
-        assert!(rt; 1 <= workers && workers <= 64);
+        assert!(rt; 1 <= workers && workers <= WORKERS_LIMIT);
         let plan = plan_of_case(rt.alloc(), case)?;
         meets(&rt, rt.alloc(), &plan, workers)?;
     }
@@ -426,7 +428,7 @@ fn meets<R: Threads + Abort + Sync>(
     workers: u32,
 ) -> Result<(), Fail>
     requires sound { IsSound plan.now }
-    requires workers { (1 ≤ workers) × (workers ≤ 64) }
+    requires workers { (1 ≤ workers) × (workers ≤ workers_limit) }
 {
     let bodies = Lasts {
         plan,

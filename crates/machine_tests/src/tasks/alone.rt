@@ -2,6 +2,7 @@
 //! goes to `osout`; and a function that adds 1 and a slot of its own to its argument, keeps the sum in that slot, and leaves a 9 behind.
 
 ghost use Rattle.std.specs.Prelude.{◌≡◌, ◌≤◌, ◌++◌, IfOk, length, true};
+ghost use Rattle.flow_core_laws.specs.Limits.{budget_limit};
 ghost use Rattle.os_code.specs.Checking.{is_valid};
 ghost use Rattle.machine_tests.specs.Written.{alone};
 
@@ -82,8 +83,8 @@ pub(crate) fn run_alone(
 ) -> Result<(Ran, Ran, [i32; 3]), Memory>
     requires short { length body.now ≤ 1000 }
     requires valid { is_valid (alone body.now) ≡ true }
-    requires budget { first.1 ≤ 1000000000 }
-    requires other_budget { second.1 ≤ 1000000000 }
+    requires budget { first.1 ≤ budget_limit }
+    requires other_budget { second.1 ≤ budget_limit }
 {
     let instrs = with_behind(alloc, body)?;
     let behind = body.len() as u32;
