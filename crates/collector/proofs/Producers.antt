@@ -2,7 +2,7 @@
 use Rattle.std.proofs.Common.{◌≡◌, ℕ, ◌+◌, ◌<◌, ◌≤◌, ◌&&◌, true, false, cond, not, List, Option, Some, None, length, refl, sym, ap, ◌∙◌, subst, arith}
 use Rattle.std.specs.Prelude.{IfSome, slice_get, option_and_then, nat_lt, nat_le, ◌==◌}
 use Rattle.std.specs.Option.{option_map, option_map_or}
-use Rattle.std.proofs.lemmas.Bool.{le-leb, lt-ltb}
+use Rattle.std.proofs.lemmas.Bool.{and_parts, eqb-true, le-leb, lt-ltb}
 use Rattle.std.proofs.lemmas.Bool.Decides.{nat_tests}
 use Rattle.std.proofs.lemmas.Option.{same_Some, slice_get-map, slice_get_within, get_or_from_slice_get}
 use Rattle.flow_core_laws.specs.declared.activation.Activation.{Activation}
@@ -17,6 +17,7 @@ use Rattle.stream_match_layouts.specs.declared.span.Span.{Span}
 use Rattle.stream_match_layouts.specs.Layout.{IsLayout, IsLayoutOf, span_of}
 use Rattle.stream_match_layouts.proofs.Writers.{end_small, window_number}
 use Rattle.stream_match_layouts.proofs.Windows.{no_window}
+use Rattle.collector.specs.Missing.{WritesAt}
 use Rattle.collector.specs.Walking.{is_gap, Reaches}
 
 -- the span of the producer's number is that of the producer
@@ -50,13 +51,14 @@ produces_of activations stream position span h = by (producer activations stream
         let writes = written stream position w passes in
         record { window = w; number = i; is = same_Some span (span_of w) h; produces = is; stands = at; on_stream = writes.on_stream; from = writes.from; to = writes.to }
 
--- the span of a producer covers the position
+-- the span of a producer writes the stream and covers the position
 pub covers_if : (activations : List Activation) (stream position : ℕ) (found : Option Span) → found ≡ option_map span_of (producer activations stream position)
-    → IfSome found (λ span. position < span.first + span.count)
+    → IfSome found (WritesAt stream position)
 covers_if activations stream position None is = tt
 covers_if activations stream position (Some span) is =
     let p = produces_of activations stream position span is in
-    subst (λ (s : Span). position < s.first + s.count) (sym p.is) p.to
+    let parts = and_parts p.window.claim.write (p.window.claim.stream == stream) p.on_stream in
+    subst (WritesAt stream position) (sym p.is) (record { writes = parts.0; on_stream = eqb-true p.window.claim.stream stream parts.1; from = p.from; to = p.to })
 
 -- its end fits
 pub producer_small : (layout : Layout) (is : IsLayout layout) (stream position : ℕ) (span : Span) → Some span ≡ option_map span_of (producer is.activations stream position) → span.first + span.count ≤ 4194304

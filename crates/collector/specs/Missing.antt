@@ -1,5 +1,5 @@
 -- What is missing: the first element for which an activation waits, and who should give it.
-use Rattle.std.specs.Prelude.{ℕ, List, Option}
+use Rattle.std.specs.Prelude.{◌≡◌, ℕ, ◌+◌, ◌<◌, ◌≤◌, true, List, Option}
 use Rattle.std.specs.Option.{option_map}
 use Rattle.flow_core_laws.specs.declared.activation.Activation.{Activation}
 use Rattle.flow_core_laws.specs.declared.task_end.TaskEnd.{TaskEnd}
@@ -7,6 +7,7 @@ use Rattle.flow_core_laws.specs.There.{missing_place}
 use Rattle.collector.specs.declared.missing.Missing.{Missing}
 use Rattle.flow_core_laws.specs.Window.{Window, producer}
 use Rattle.flow_core_laws.specs.Place.{Place}
+use Rattle.stream_match_layouts.specs.declared.span.Span.{Span}
 
 -- The activation whose write claim covers a place, or none.
 abbrev pub producing : List Activation → Place → Option ℕ
@@ -21,3 +22,10 @@ missing_at activations place = record { stream = place.stream; position = place.
 -- has an end, if only as poison.
 abbrev pub missing : List Activation → ℕ → List (Option TaskEnd) → ℕ → Option Missing
 missing activations input_len ends a = option_map (missing_at activations) (missing_place activations input_len ends a)
+
+-- A span that writes a stream and covers a position of it.
+pub record WritesAt (stream position : ℕ) (span : Span) : Type 0 where
+  pub writes : span.write ≡ true
+  pub on_stream : span.stream ≡ stream
+  pub from : span.first ≤ position
+  pub to : position < span.first + span.count

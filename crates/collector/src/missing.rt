@@ -6,7 +6,7 @@ ghost use Rattle.flow_core_laws.specs.Outcome.{has_end_at};
 ghost use Rattle.flow_core_laws.specs.Window.{producer};
 ghost use Rattle.stream_match_layouts.specs.Layout.{IsLayout, IsLayoutOf, span_of};
 ghost use Rattle.stream_match_layouts.specs.Spans.{frame_count};
-ghost use Rattle.collector.specs.Missing.{missing};
+ghost use Rattle.collector.specs.Missing.{WritesAt, missing};
 ghost use Rattle.collector.specs.Walking.{IsSpanIn, Reaches, is_gap, is_missing, first_gap, place_of, read_places};
 
 use flow_core_laws::Ends;
@@ -132,7 +132,7 @@ fn producing(layout: &Layout, gap: Gap) -> Option<u32>
 pub fn producer(layout: &Layout, stream: u32, position: u64) -> Option<Span>
     requires layout { IsLayout layout.now }
     requires exists { stream < length layout.now.writers }
-    ensures covers { IfSome result (λ span. position < span.first + span.count) }
+    ensures covers { IfSome result (WritesAt stream position) }
     ensures writer { (activations : List Activation) → IsLayoutOf layout.now activations
         → result ≡ option_map span_of (producer activations stream position) }
 {

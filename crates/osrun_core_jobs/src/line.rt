@@ -1,12 +1,14 @@
-ghost use Rattle.std.specs.Prelude.{◌≡◌, ◌+◌, ◌<◌, ◌≤◌, ◌++◌, ◌∷◌, [], length};
+ghost use Rattle.std.specs.Prelude.{◌≡◌, ◌+◌, ◌<◌, ◌≤◌, ◌++◌, ◌∷◌, [], take};
 ghost use Rattle.std.specs.Fmt.{decimal};
+ghost use Rattle.osrun_core_jobs.specs.LineRoom.{line_room};
 
 use std::marker::Model;
 
 /// How many bytes a line may have.
 const ROOM: usize = 64;
 
-/// A line that is put together in room of its own, and takes no memory. Contracts see its bytes. What there is no room for is left out.
+/// A line that is put together in room of its own, and takes no memory. Contracts see its bytes. What there is no room for is left out,
+/// from the first byte on that doesn't fit.
 #[derive(Drop)]
 pub struct Line {
     bytes: [u8; ROOM],
@@ -16,12 +18,13 @@ pub struct Line {
 
 impl Model for Line {
     ghost use Rattle.std.specs.Prelude.{ℕ, ◌≤◌, List, take};
+    ghost use Rattle.osrun_core_jobs.specs.LineRoom.{line_room};
 
     ghost Value = { List ℕ };
 
     ghost view = { λ line. take line.kept line.bytes };
 
-    ghost invariant = { λ line. line.kept ≤ 64 };
+    ghost invariant = { λ line. line.kept ≤ line_room };
 }
 
 impl Line {
@@ -35,35 +38,23 @@ impl Line {
         }
     }
 
-    /// Adds a byte.
-    fn push(&mut self, byte: u8)
-        ensures { length self.old < 64 → self.new ≡ self.old ++ byte ∷ [] }
-    {
-        if self.kept < ROOM {
-            self.bytes[self.kept] = byte;
-            self.kept += 1;
-        }
-    }
-
-    /// Adds a text.
+    /// Adds a text, as far as there is room.
     pub fn text(&mut self, text: &[u8])
-        ensures { length self.old + length text.now ≤ 64 → self.new ≡ self.old ++ text.now }
+        ensures { self.new ≡ take line_room (self.old ++ text.now) }
     {
-        for byte in text {
-            self.push(*byte);
-        }
+        let more = text.len().min(ROOM - self.kept);
+        self.bytes[self.kept..self.kept + more].copy_from_slice(&text[..more]);
+        self.kept += more;
     }
 
-    /// Adds a number in decimal.
+    /// Adds a number in decimal, as far as there is room.
     pub fn number(&mut self, number: u64)
-        ensures { length self.old + length (decimal number) ≤ 64 → self.new ≡ self.old ++ decimal number }
+        ensures { self.new ≡ take line_room (self.old ++ decimal number) }
     {
-        if number < 10 {
-            self.push(b'0' + number as u8);
-            return;
+        if number >= 10 {
+            self.number(number / 10);
         }
-        self.number(number / 10);
-        self.push(b'0' + (number % 10) as u8);
+        self.text(&[b'0' + (number % 10) as u8]);
     }
 
     /// The bytes of the line.

@@ -1,25 +1,22 @@
-use Rattle.std.proofs.Common.{◌++◌, ◌+◌, ◌∷◌, ◌/◌, ◌%◌, ◌∙◌, [], ap, sym, arith, append_assoc, length}
+use Rattle.std.proofs.Common.{◌≡◌, ◌∙◌, ◌+◌, ◌/◌, ◌%◌, ◌++◌, ◌∷◌, [], ap, append_assoc, arith, sym, take}
 use Rattle.std.specs.Fmt.{decimal}
-use Rattle.std.proofs.lemmas.List.{length-append}
-use Rattle.std.proofs.lemmas.Fmt.{decimal_step, decimal_digit}
+use Rattle.std.proofs.lemmas.Fmt.{decimal_digit, decimal_step}
+use Rattle.osrun_core_jobs.specs.LineRoom.{line_room}
+use Rattle.osrun_core_jobs.proofs.Told.{cut_again}
 use Rattle.osrun_core_jobs.proofs.line.Line.+number.Goals as goal
-
-pub returns-then-number-lt10 : goal.returns-then-number-lt10
-returns-then-number-lt10 t c = λ fits.
-    c.push.ensures (omega (arith, fits, ap length (decimal_digit c.args.number c.if-number-lt10.true)))
-    ∙ ap (λ digits. c.args.self.now ++ digits) (sym (decimal_digit c.args.number c.if-number-lt10.true))
-
-pub number-requires : goal.number-requires
-number-requires t c = omega (arith, c.decreases, c.if-number-lt10.false)
+use Rattle.osrun_core_jobs.proofs.line.Line.+number.Goals.{then-number-ge10, else-number-ge10}
 
 pub returns : goal.returns
-returns t c = λ fits.
-    let n = c.args.number in
+returns t c =
     let old = c.args.self.now in
+    let n = c.args.number in
+    let first = decimal (n / 10) in
     let last = (48 + n % 10) ∷ [] in
-    let step = decimal_step n c.if-number-lt10.false c.ranges.number.fits in
-    let long = ap length step ∙ length-append (decimal (n / 10)) last in
-    let first = c.number.ensures (omega (arith, fits, long)) in
-    c.push-2.ensures (omega (arith, fits, long, ap length first ∙ length-append old (decimal (n / 10))))
-    ∙ ap (λ bytes. bytes ++ last) first ∙ append_assoc old (decimal (n / 10)) last
-    ∙ ap (λ digits. old ++ digits) (sym step)
+    elim c.if-number-ge10.branch [
+      | then-number-ge10 w ↦
+          c.text.ensures ∙ ap (λ told. take line_room (told ++ last)) (w.self-is ∙ w.number.ensures) ∙ cut_again line_room (old ++ first) last
+          ∙ ap (take line_room) (append_assoc old first last ∙ ap (λ digits. old ++ digits) (sym (decimal_step n w.if-number-ge10.true c.ranges.number.fits)))
+      | else-number-ge10 w ↦
+          let digit : (48 + n % 10) ∷ [] ≡ (48 + n) ∷ [] = ap (λ d. (48 + d) ∷ []) (let e : n % 10 ≡ n = omega (arith, w.if-number-ge10.false) in e) in
+          c.text.ensures ∙ ap (λ told. take line_room (told ++ last)) w.self-is ∙ ap (λ digits. take line_room (old ++ digits)) (digit ∙ sym (decimal_digit n w.if-number-ge10.false))
+    ]
