@@ -7,19 +7,20 @@ use stream_match::Layout;
 /// How many shares a run is given out in at most: a share costs its thread the creation of all activations before it.
 const MOST_SHARES: u32 = 8;
 
-/// How many activations a share runs beyond its end: those of the next one may have to begin a few later, where they need something of each other.
+/// How many activations a share runs beyond where the next one is to begin: that one may begin a few later, where its first ones need what those
+/// just before them wrote.
 const OVERLAP: u32 = 64;
 
 /// What it takes to create an activation and to lay it out, in steps of the machine of a body.
 const CREATING: u64 = 110;
 
-/// What it takes to create one and to pass it, in the same steps.
+/// What it takes to create an activation and to pass it without running it, in the same steps.
 const PASSING: u64 = 56;
 
-/// What it takes for each of its cells to put what a share came to behind those before it, in the same steps.
+/// What it takes to put what an activation of a share came to behind the shares before it, for each of its cells, in the same steps.
 const JOINING: u64 = 5;
 
-/// One, in the fractions in which weights are counted.
+/// How many parts make one: fractions and weights are counted in these parts.
 const ONE: u64 = 1_024;
 
 /// Where the shares of a run begin, such that each ends at about the time when those before it are joined: the worker of the first one has the
@@ -28,13 +29,14 @@ const ONE: u64 = 1_024;
 pub(crate) struct Borders {
     /// The number of the first activation.
     first: u32,
-    /// About how many come from it on.
+    /// About how many activations come from that one on.
     all: u64,
-    /// What passing an activation takes of the time of running it, in fractions, less what joining it takes: while the shares before its own are
-    /// joined, a worker still runs.
+    /// How much of the time of running an activation it takes to pass one, in parts of `ONE`, less what it takes to join one: a worker may run its own
+    /// while the shares before it are joined.
     passing: u64,
     /// How many activations run in the time that it takes to create all of them.
     creating: u64,
+    /// How many shares there are.
     count: u32,
 }
 
@@ -56,7 +58,7 @@ impl Borders {
         }
     }
 
-    /// The number of the last one.
+    /// The number of the last share.
     pub(crate) fn last(self) -> u32 {
         self.count.saturating_sub(1)
     }
@@ -78,7 +80,8 @@ impl Borders {
         self.in_first(number.saturating_sub(1), longest, 0)
     }
 
-    /// How long it takes so many workers to run all, where the first of them is busy for a while: in activations that one worker runs, as the while is.
+    /// How long it takes so many workers to run all activations, where the first of them is busy with other work for a time. Both times are counted
+    /// in the activations that one worker runs in them.
     fn longest(self, count: u32, busy: u64) -> u64 {
         let (time, less) = self.weights(count);
         self.all
@@ -87,7 +90,7 @@ impl Borders {
             / time.max(1)
     }
 
-    /// How many activations so many workers run in a time, the first ones, where the first of them is busy for a while.
+    /// How many activations the first so many workers run in a time, where the first of them is busy with other work for a part of it.
     fn in_first(self, count: u32, time: u64, busy: u64) -> u64 {
         let (times, less) = self.weights(count);
         time.saturating_mul(times)
@@ -95,8 +98,8 @@ impl Borders {
             / ONE
     }
 
-    /// By how much what so many workers run grows with the time that they have, and by how much it shrinks with the while that the first of them is
-    /// busy, in fractions. Each of them passes the activations of those before it, and has less time for its own.
+    /// Two weights, in parts of `ONE`. So many workers run as many activations as the time that they have times the first weight, less the time for
+    /// which the first of them is busy times the second. Each passes the activations of those before it, and has less time for its own.
     fn weights(self, count: u32) -> (u64, u64) {
         let mut grows: u64 = 0;
         let mut shrinks: u64 = 0;
@@ -127,7 +130,7 @@ fn count_of(layout: &Layout) -> u32 {
     count.min(u64::from(u32::MAX)) as u32
 }
 
-/// About how many activations come in all, where the others read as much of the input as those of a layout.
+/// About how many activations come in all, if each of the others reads as much of the input as those of a layout do on the average.
 fn expected(layout: &Layout) -> u32 {
     let read = layout.reads.as_slice().first();
     match read {

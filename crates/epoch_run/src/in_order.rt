@@ -40,7 +40,7 @@ pub(crate) const STRETCH: u32 = 256;
 /// How many of them run before the others are shared out among several workers.
 const ALONE: usize = 1_024;
 
-/// More than there ever are.
+/// More activations than a run ever has.
 const MOST: usize = ACTIVATIONS_LIMIT as usize + 1;
 
 /// Goes on in control order behind activations that all have ended: stretch by stretch, until the control program has ended, or one of a

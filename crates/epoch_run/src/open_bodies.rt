@@ -6,7 +6,7 @@ use std::alloc::Global;
 use task_vm::{Scratch, run_task};
 
 /// The bodies of the activations that the control program of a code has created so far, by their numbers in the run. The list
-/// has those alone from a number on: whatever comes before has ended, and is run no more.
+/// has only those from the number `first` on: all before them have ended, and aren't run again.
 #[derive(Clone, Copy)]
 pub(crate) struct OpenBodies<'r> {
     pub code: &'r Code,

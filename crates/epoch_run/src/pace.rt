@@ -16,11 +16,11 @@ pub(crate) const RUNNING: u64 = 170;
 /// activations, and each other one creates those before its own as well.
 const SHARE_STEPS: u64 = 20;
 
-/// How many it has to take for two workers.
+/// How many steps it has to take for two workers to gain.
 const SHARE_STEPS_OF_TWO: u64 = 90;
 
-/// How many steps it has to take for each of its cells, with those that running it takes besides: what a share writes is put behind what the others
-/// did, which takes about as long again.
+/// How many steps it has to take for each of its cells, with `RUNNING` added to them: what a share wrote is put behind what the others wrote, which
+/// takes about as long as writing it did.
 const SHARED_CELL_STEPS: u64 = 11;
 
 /// The least number of steps for which it pays to run a plan by several workers, whatever a table costs.
@@ -106,7 +106,7 @@ impl Pace {
         }
     }
 
-    /// Whether they may be: they are, or nothing tells yet.
+    /// Whether they may be so short: they are known to be, or nothing is known of them yet.
     pub(crate) fn may_be_short(self) -> bool {
         match self {
             Pace::Steps { .. } => self.is_short(),

@@ -1,6 +1,6 @@
 ghost use Rattle.std.specs.Prelude.{◌≤◌};
 
-/// How many new activations an epoch has at most for each worker, and by how many workers at most.
+/// How many new activations an epoch has at most for each worker that it is sized for.
 const ACTIVATIONS: u32 = 1024;
 
 /// How many elements the windows of an epoch's new activations may have for each worker: with so many it takes no more activations,
@@ -10,7 +10,7 @@ const ELEMENTS: u64 = 16_384;
 /// How many they may have where one worker runs the epoch: it starts no thread for it, so that a small epoch costs little.
 const ELEMENTS_ALONE: u64 = 8_192;
 
-/// For how many workers an epoch has a share. More of them share what these have.
+/// For how many workers an epoch is sized at most: where there are more, they share what so many would have.
 const SHARES: u32 = 4;
 
 /// How many activations are created before their elements are counted: so an epoch has one for each of 64 workers.

@@ -409,7 +409,8 @@ impl<'c> Standing<'c> {
         self.run_rest(rt, alloc, code, input, budgets, workers, gate)
     }
 
-    /// Whether all activations are to be run now: none has ended, and none is found to wait. What was never looked at isn't asked.
+    /// Whether all activations are to be run now: none has ended, and none is found to wait. Where none was
+    /// in an epoch yet, whether one waits isn't looked at.
     fn runs_all(&self, alloc: Global) -> Result<bool, Memory>
         requires { IsLayout self.now.layout }
         ensures { IfOk result (λ all. all ≡ true → self.now.first ≡ 0) }

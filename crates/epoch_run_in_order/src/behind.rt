@@ -23,8 +23,8 @@ use stream_match::Kept;
 use stream_match_layouts::Layout;
 use task_vm::Scratch;
 
-/// For how many more ends, and elements of the output, there is room from the start. An allocator hands so large a block out untouched, and
-/// what isn't used of it costs nothing; a list that grows from less is copied several times.
+/// For how many more ends, and how many more elements of the output, room is taken at the start. An allocator hands so large a block out
+/// untouched, so that what isn't used of it costs nothing; a list that grows from less is copied several times.
 const ROOM: usize = 32_768;
 
 impl InOrder {

@@ -55,7 +55,7 @@ fn keep_all(alloc: Global, streams: &Streams) -> Result<Vec<Kept>, Memory>
     Ok(kept)
 }
 
-/// Adds the elements of a stream. It is `Memory` too where a position of them is no number.
+/// Adds the elements of a stream. It answers `Memory` too where the position behind them is above the largest `u64`.
 fn keep(kept: &mut Vec<Kept>, streams: &Streams, stream: u32) -> Result<(), Memory>
     requires { stream < length streams.now.elements }
     ensures { OnOk result (map kept_of kept.new.items ≡ map kept_of kept.old.items

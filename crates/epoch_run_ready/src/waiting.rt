@@ -102,8 +102,8 @@ pub(crate) fn spans_wait(layout: &Layout, waits: &[bool], missing: &[u64], spans
     false
 }
 
-/// Whether a span reads an element that can't come. Where it has the first position of its stream that is known to, that tells, and
-/// where it ends before that, too.
+/// Whether a span is found to read an element that can't come. It is where it reads the first position of its stream whose element is known
+/// not to come, and it isn't where it ends before that position. Where it begins behind that, all that it reads is looked at.
 fn span_waits(layout: &Layout, waits: &[bool], missing: &[u64], span: Span) -> bool
     requires layout { IsLayout layout.now }
     requires exists { span.stream < length layout.now.writers }

@@ -42,8 +42,8 @@ pub(crate) fn run_all(
     Ok(true)
 }
 
-/// Runs the next activation. Where it finds not all that it reads, and no more activations were passed than up to the latest place for a
-/// share's begin, the share begins anew behind it. It answers whether the share goes on.
+/// Runs the next activation. Where not all that it reads is there, the share begins anew behind it, unless more activations than `latest` were
+/// passed by then. It answers whether the share goes on.
 fn run_next(
     positions: &mut Positions,
     apart: &mut Apart,

@@ -15,7 +15,7 @@ use os_code::Code;
 use os_io::Memory;
 use std::alloc::Global;
 
-/// How many activations behind its first one a share may begin.
+/// How many activations later than it was asked to a share may begin at most.
 const LATER: u32 = 64;
 
 /// Runs a share of the activations that a code creates over an input: from about a number on, in control order, apart from those before. It

@@ -7,8 +7,8 @@
 //! leaves; `read_cursors` has the positions from which on elements may still be read.
 //!
 //! Its promise is the meaning of the activations in `flow_core_laws`, and that of epochs in `flow_core_epochs`:
-//! the plan is sound and stands for the activations and the input. That the plan of an epoch and that of a
-//! whole run are one plan over reaches stands in `epoch_laws`.
+//! the plan is sound and stands for the activations and the input. `epoch_laws` has these laws for the plans of
+//! epochs and for that of a whole run.
 #![tactic(auto)]
 
 mod cursors;

@@ -2,8 +2,8 @@ ghost use Rattle.std.specs.Prelude.{◌≡◌, ◌^◌, ◌<◌, true, length, s
 ghost use Rattle.flow_core_epochs.specs.Epoch.{number_in};
 ghost use Rattle.stream_match.specs.EpochCode.{Ascend};
 
-/// The number of an activation among frames: where all between the first frame and it are frames, the first one tells it,
-/// where all behind it are, the last one does, and else it is found by halving.
+/// The number of an activation among frames, if it is one of them. Where all activations from the first frame to it are frames, its distance
+/// from the first one tells; where all from it to the last frame are, that from the last one does; else it is found by halving.
 pub(crate) fn number_of(frames: &[u32], activation: u32) -> Option<u32>
     requires ascend { Ascend frames.now }
     requires few { length frames.now < 2 ^ 32 }

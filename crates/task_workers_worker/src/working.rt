@@ -49,7 +49,8 @@ fn turn<B: Bodies, G: Gate>(
     run_claimed(table, seat, frame, hand, bodies, scratch, log, gate);
 }
 
-/// Runs frames of the hand, and frames that it finds by looks, until so many looks in a row counted.
+/// Runs frames of the hand, and frames that it finds by looks, until enough looks in a row have counted: four times as many as there are
+/// frames, and at least 65,536. Where there are no frames it does nothing.
 pub fn work<B: Bodies, G: Gate>(
     table: &FrameTable,
     mut seat: FrameSeat,
