@@ -1,6 +1,6 @@
 -- Lines that are put together, text by text.
 use Rattle.std.proofs.Common.{◌≡◌, ◌∙◌, ℕ, zero, suc, ◌+◌, ◌-◌, ◌≤◌, List, [], ◌∷◌, ◌++◌, ap, arith, length, min, refl, sym, take}
-use Rattle.std.proofs.lemmas.List.{length-append, take-append-le, take_all, take_min}
+use Rattle.std.proofs.lemmas.List.{length-append, take_all, take_min}
 use Rattle.std.proofs.Math.Seq.{take-append-add}
 use Rattle.osrun_core_jobs.specs.LineRoom.{line_room}
 

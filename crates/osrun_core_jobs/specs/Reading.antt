@@ -4,7 +4,7 @@
 -- many bytes were given before the next one.
 --
 -- What makes bytes usable as a file of a job, and how they are refused, depends on what the job does with them, and is a parameter.
-use Rattle.std.specs.Prelude.{◌≡◌, ◌≤◌, ◌<◌, ◌+◌, ◌⊎◌, ℕ, List, [], ◌∷◌, IfSome, Option, Some, All, length, slice_get, take}
+use Rattle.std.specs.Prelude.{◌≡◌, ◌≤◌, ◌<◌, ◌+◌, ◌⊎◌, ℕ, List, [], ◌∷◌, IfSome, Option, Some, length, slice_get, take}
 use Rattle.std.specs.Io.KnownBytes.{IsAtEnd}
 use Rattle.os_io.specs.Counts.{HasRisen, raised}
 use Rattle.os_io.specs.Reading.{IsReadUpTo}
