@@ -9,6 +9,7 @@ use Rattle.stream_match_layouts.specs.declared.layout.Layout.{Layout}
 use Rattle.epoch_run.specs.InOrder.{AreLaidOut}
 use Rattle.epoch_run.specs.Run.{created}
 use Rattle.epoch_run.specs.declared.result.Budgets.{Budgets}
+use Rattle.epoch_run.specs.declared.standing.Standing.{Standing}
 
 -- The activations so far are those that the control program of some code has created over some input, and they are laid out.
 pub record IsLaidOut (so_far : RunSoFar) (layout : Layout) : Type 0 where
@@ -30,3 +31,8 @@ pub record AreSharedOut (code : Code) (input : List ℕ) (budgets : Budgets) (so
   pub ended : so_far.has_ended ≡ true
   pub all : given_by so_far ≡ created (parts_of code) input budgets
   pub ran : FirstOnesRan code input budgets order
+
+-- What shares leave that were run: all activations are created and laid out, the first ones have run, and no fewer than before.
+pub record SharesOut (code : Code) (input : List ℕ) (budgets : Budgets) (run : Standing) (before after : InOrder) : Type 0 where
+  pub shared : AreSharedOut code input budgets run.control run.layout after
+  pub no_fewer : length before.ends ≤ length after.ends

@@ -10,7 +10,7 @@ ghost use Rattle.epoch_run_in_order.specs.Standing.{IsReady};
 ghost use Rattle.epoch_run_shares.specs.Share.{IsShare};
 ghost use Rattle.epoch_run.specs.InOrder.{AreLaidOut, HaveRunInOrder};
 ghost use Rattle.epoch_run.specs.Run.{AreBudgets};
-ghost use Rattle.epoch_run.specs.Sharing.{AreSharedOut, FirstOnesRan, IsLaidOut};
+ghost use Rattle.epoch_run.specs.Sharing.{FirstOnesRan, IsLaidOut, SharesOut};
 ghost use Rattle.epoch_run.specs.declared.result.Budgets.{Budgets};
 
 use crate::borders::Borders;
@@ -40,8 +40,7 @@ pub(crate) fn run_shares<R: Threads + Sync>(
     requires input { length input.now ≤ input_limit }
     requires budgets { AreBudgets budgets }
     requires ran { HaveRunInOrder code.now input.now budgets run.old order.old }
-    ensures shared { OnOk result (AreSharedOut code.now input.now budgets run.new.control run.new.layout order.new) }
-    ensures no_fewer { OnOk result (length order.old.ends ≤ length order.new.ends) }
+    ensures { OnOk result (SharesOut code.now input.now budgets run.new order.old order.new) }
 {
     if number == 0 {
         return lead_apart(rt, run, order, alloc, code, input, budgets, borders);
@@ -55,8 +54,7 @@ pub(crate) fn run_shares<R: Threads + Sync>(
     let mut others = || -> Result<(), Memory>
         requires { IsSync R.row × (1 ≤ number) × (length input.now ≤ input_limit) × AreBudgets budgets
             × HaveRunInOrder code.now input.now budgets run.now order.now }
-        ensures { OnOk result (AreSharedOut code.entry.now input.entry.now budgets run.exit.now.control run.exit.now.layout order.exit.now
-            × (length order.entry.now.ends ≤ length order.exit.now.ends)) }
+        ensures { OnOk result (SharesOut code.entry.now input.entry.now budgets run.exit.now order.entry.now order.exit.now) }
     {
         run_shares(
             rt,
@@ -137,13 +135,11 @@ fn lead_apart<R: Threads + Sync>(
     requires input { length input.now ≤ input_limit }
     requires budgets { AreBudgets budgets }
     requires ran { HaveRunInOrder code.now input.now budgets run.old order.old }
-    ensures shared { OnOk result (AreSharedOut code.now input.now budgets run.new.control run.new.layout order.new) }
-    ensures no_fewer { OnOk result (length order.old.ends ≤ length order.new.ends) }
+    ensures { OnOk result (SharesOut code.now input.now budgets run.new order.old order.new) }
 {
     let mut first = || -> Result<(), Memory>
         requires { (length input.now ≤ input_limit) × AreBudgets budgets × HaveRunInOrder code.now input.now budgets run.now order.now }
-        ensures { OnOk result (AreSharedOut code.entry.now input.entry.now budgets run.exit.now.control run.exit.now.layout order.exit.now
-            × (length order.entry.now.ends ≤ length order.exit.now.ends)) }
+        ensures { OnOk result (SharesOut code.entry.now input.entry.now budgets run.exit.now order.entry.now order.exit.now) }
     { lead(run, order, alloc, code, input, budgets, borders) };
     let mut wait = || {};
     let (led, _) = join_mut(rt, &mut first, &mut wait);
@@ -163,8 +159,7 @@ fn lead(
     requires input { length input.now ≤ input_limit }
     requires budgets { AreBudgets budgets }
     requires ran { HaveRunInOrder code.now input.now budgets run.old order.old }
-    ensures shared { OnOk result (AreSharedOut code.now input.now budgets run.new.control run.new.layout order.new) }
-    ensures no_fewer { OnOk result (length order.old.ends ≤ length order.new.ends) }
+    ensures { OnOk result (SharesOut code.now input.now budgets run.new order.old order.new) }
 {
     lay_out_rest(run, alloc)?;
     let apart = run_numbered(alloc, code, input, budgets, borders, 0)?;
