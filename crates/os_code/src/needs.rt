@@ -1,6 +1,6 @@
 //! What the chains of calls of a code need.
 
-ghost use Rattle.std.specs.Prelude.{◌≡◌, ℕ, ◌+◌, ◌<◌, ◌≤◌, true, false, length, slice_get, slice_index_or, IfOk};
+ghost use Rattle.std.specs.Prelude.{◌≡◌, ℕ, ◌+◌, ◌<◌, length, slice_get, IfOk};
 ghost use Rattle.os_code.specs.declared.unit.Unit.{Unit as CodeUnit};
 ghost use Rattle.os_code.specs.Chains.{IsLargest};
 ghost use Rattle.os_code.specs.IsValid.{HasRegions, IsValid};
@@ -9,6 +9,7 @@ ghost use Rattle.os_code.specs.NeedTables.{stack_in, slots_in, LargestFrom, IsMa
 
 use crate::instr::Instr;
 use crate::parts::Parts;
+use crate::region::end_of_region;
 use os_io::Memory;
 use std::alloc::Global;
 
@@ -29,21 +30,6 @@ fn mark_starts(alloc: Global, parts: &Parts) -> Result<Vec<bool>, Memory>
         marks[unit.start as usize] = true;
     }
     Ok(marks)
-}
-
-/// The end of the region that begins at a unit's start.
-fn end_of(marks: &[bool], start: usize) -> usize
-    requires { start < length marks.now }
-    ensures after { start < result }
-    ensures inside { result ≤ length marks.now }
-    ensures none_between { (place : ℕ) → start < place → place < result → slice_index_or marks.now place false ≡ false }
-    ensures ends { result < length marks.now → slice_index_or marks.now result false ≡ true }
-{
-    let mut end = start + 1;
-    while end < marks.len() && !marks[end] {
-        end += 1;
-    }
-    end
 }
 
 /// What the calls of a region need at most, where the units that they name are in the table.
@@ -74,7 +60,7 @@ fn unit_need(parts: &Parts, marks: &[bool], number: usize, table: &[Need]) -> Ne
 {
     let unit = parts.units.as_slice()[number];
     let start = unit.start as usize;
-    let end = end_of(marks, start);
+    let end = end_of_region(marks, start);
     let called = most_called_of(&parts.instrs.as_slice()[start..end], table);
     Need {
         stack: u64::from(unit.stack) + called.stack,

@@ -1,11 +1,11 @@
 //! Where units stand: where each region ends.
 
-ghost use Rattle.std.specs.Prelude.{◌≡◌, ℕ, ◌<◌, ◌≤◌, true, false, length, slice_index_or, IfOk, IfSome, IfNone};
+ghost use Rattle.std.specs.Prelude.{IfOk, IfSome, IfNone};
 ghost use Rattle.os_code.specs.IsValid.{HasRegions, IsValid};
 ghost use Rattle.os_code.specs.NeedTables.{IsMarked};
 ghost use Rattle.os_object_validity.specs.Tables.{AreEnds};
 
-use os_code::Parts;
+use os_code::{Parts, end_of_region};
 use os_io::Memory;
 use std::alloc::Global;
 
@@ -19,7 +19,7 @@ pub(crate) fn ends_of(alloc: Global, parts: &Parts) -> Result<Option<Vec<usize>>
     };
     let mut ends = Vec::with_capacity(alloc, parts.units.len())?;
     for unit in parts.units.as_slice() {
-        ends.push(end_of(marks.as_slice(), unit.start as usize))?;
+        ends.push(end_of_region(marks.as_slice(), unit.start as usize))?;
     }
     Ok(Some(ends))
 }
@@ -50,19 +50,4 @@ fn starts_of(alloc: Global, parts: &Parts) -> Result<Option<Vec<bool>>, Memory>
         return Ok(None);
     }
     Ok(Some(marks))
-}
-
-/// The end of the region that begins at a unit's start.
-fn end_of(marks: &[bool], start: usize) -> usize
-    requires { start < length marks.now }
-    ensures after { start < result }
-    ensures inside { result ≤ length marks.now }
-    ensures none_between { (place : ℕ) → start < place → place < result → slice_index_or marks.now place false ≡ false }
-    ensures ends { result < length marks.now → slice_index_or marks.now result false ≡ true }
-{
-    let mut end = start + 1;
-    while end < marks.len() && !marks[end] {
-        end += 1;
-    }
-    end
 }

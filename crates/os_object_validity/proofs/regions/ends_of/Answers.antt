@@ -9,10 +9,10 @@ pub loop-unit-preserved : goal.loop-unit-preserved
 loop-unit-preserved c =
     let marked : IsMarked c.args.parts.now c.in-Some.marks.items = search rules in
     ends-more c.args.parts.now c.as_slice.result.now (subst (λ (l : List Bool). IsMarked c.args.parts.now l) (sym c.as_slice.ensures.value) marked)
-    c.loop-unit.ends.items c.push.new.self.items c.loop-unit.unit-index c.end_of.result (get_or c.as_slice-unit-items.result.now c.loop-unit.unit-index no_unit)
+    c.loop-unit.ends.items c.push.new.self.items c.loop-unit.unit-index c.end_of_region.result (get_or c.as_slice-unit-items.result.now c.loop-unit.unit-index no_unit)
     c.loop-unit.invariant
     (unit_read c.args.parts.now.units c.as_slice-unit-items.result.now c.loop-unit.unit-index c.as_slice-unit-items.ensures (omega arith))
-    c.end_of.ensures.after c.end_of.ensures.inside c.end_of.ensures.none_between c.end_of.ensures.ends c.in_ok-push.ensures.items
+    c.end_of_region.ensures.after c.end_of_region.ensures.inside c.end_of_region.ensures.none_between c.end_of_region.ensures.ends c.in_ok-push.ensures.items
 
 pub returns-clause-some : goal.returns-clause-some
 returns-clause-some c =

@@ -1,5 +1,5 @@
 use Rattle.std.proofs.Common.{◌≡◌, ℕ, ◌<◌, ◌≤◌, ◌-◌, false, length, slice_index_or}
-use Rattle.os_object_validity.proofs.regions.end_of.Given as goal
+use Rattle.os_code.proofs.region.end_of_region.Given as goal
 
 abbrev pub invariant-loop-end : goal.invariant-loop-end
 invariant-loop-end l = record {
