@@ -21,16 +21,16 @@ use std::thread::Threads;
 use task_workers::Gate;
 
 /// Runs a code over an input in epochs of at most 4,096 new activations, and of fewer where their windows are large, or the
-/// workers few: while 1 to 64 workers run one epoch, the control program creates the activations of the next one. What it comes
-/// to is the data-flow meaning of all activations that it creates.
+/// workers few: while 2 to 64 workers run one epoch, the control program creates the activations of the next one; one worker does the one
+/// after the other. What it comes to is the data-flow meaning of all activations that the control program creates.
 ///
-/// Where nobody waits and bodies are short, the activations run in control order instead: one after the other, without a plan, until one of
-/// them doesn't find there what it reads. Several workers share such a run out, for which all activations are created. Where one of them has to
-/// wait, the run goes on behind those that ran, and the others are created again as they come.
+/// Where nobody waits, the activations run in control order instead: one after the other, without a plan, until one of them doesn't find there
+/// what it reads. By several workers they do so where bodies are short, and are shared out among these where that pays: then all activations are
+/// created at once. Where one of them has to wait, the run goes on behind those that ran, and the others are created again as they come.
 ///
 /// The gate is called as in `execute`, with the number of a frame in its epoch, and in control order with worker 0 and the number of an
-/// activation in its stretch; of activations that a share runs it isn't told. The activations, their positions, their ends and the output are
-/// held of the whole run, a plan and its cells of one epoch at a time.
+/// activation in its stretch; of activations that a share runs it isn't told. Their positions, their ends and the output are held of the whole
+/// run, the activations themselves until all so far have ended, a plan and its cells of one epoch at a time.
 pub fn run_epochs<R: Threads + Sync, G: Gate>(
     rt: &R,
     alloc: Global,

@@ -1,5 +1,5 @@
-//! Runs of a code in epochs: workers run some of the activations while the control program creates the next ones, and what
-//! may still be read of what they wrote is carried over to those.
+//! Runs of a code in epochs: workers run some of the activations while the control program creates the next ones (one worker does so in turn),
+//! and what may still be read of what they wrote is carried over to those.
 //!
 //! `run_epochs` takes a code and an input, and gives the positions of all activations that the control program creates,
 //! how each of them ended, the elements of the output, and how the control program ended: the data-flow meaning of the
@@ -7,13 +7,14 @@
 //!
 //! Between two epochs stand the ends and the output of the activations so far, as these alone mean them, and the elements
 //! that later ones may read. The frames of an epoch are activations that have no end yet: the new ones, and those of
-//! earlier epochs that can run by now; what still waits is left out (`epoch_run_ready`), and costs a look in each epoch. So the
+//! earlier epochs that can run by now; what still waits is left out (`epoch_run_ready`), and costs a few looks in each epoch in which something runs. So the
 //! plan and the cells of one epoch alone are held at once. Where none has ended before the control program has, and none is found to wait
 //! then, all are run by the plan of the whole run, and nothing is carried over.
 //!
-//! Where nobody waits and bodies are short, `run_epochs` goes on in control order instead (`epoch_run_in_order`): activations run one
-//! after the other, with no plan, until one of them doesn't find there what it reads. What ran is then held as after an epoch. Several workers
-//! share such a run out: each creates all activations for itself, and runs those from a number on (`epoch_run_shares`).
+//! Where nobody waits, and by several workers bodies are short, `run_epochs` goes on in control order instead (`epoch_run_in_order`): activations
+//! run one after the other, with no plan, until one of them doesn't find there what it reads. What ran is then held as after an epoch. Several
+//! workers share such a run out: each has a control program of its own create the activations up to the end of its share, and runs those from
+//! the share's begin on (`epoch_run_shares`).
 #![tactic(auto)]
 
 mod adding;

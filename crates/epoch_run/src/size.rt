@@ -29,8 +29,8 @@ pub struct EpochSize {
     pub elements: u64,
     /// The elements are counted each time that the control program has created so many activations; 0 stands for 1.
     pub stretch: u32,
-    /// How many times as much it may have while many activations wait, since each of them is looked at again in each epoch; 0 stands
-    /// for 1.
+    /// How many times as much it may have while many activations wait, since each of them is looked at again in each epoch in which something
+    /// runs; 0 stands for 1.
     pub growth: u32,
 }
 

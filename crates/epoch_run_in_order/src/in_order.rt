@@ -47,7 +47,7 @@ pub struct HeldInOrder {
 impl InOrder {
     /// Runs activations in order: the last ones of a layout, as long as each finds there what it reads, and as long as their bodies took
     /// fewer steps together than a number. It answers how many ran. The gate is called with worker 0 and the number of an activation among
-    /// these before it runs. After `Memory` the run is to be given up.
+    /// these before it runs, or is found to wait. After `Memory` the run is to be given up.
     pub fn run_all<G: Gate>(
         &mut self,
         code: &Code,

@@ -1,4 +1,4 @@
-//! Plans: where the elements of a run come from, worked out before anything runs.
+//! Plans: where the elements come from that activations read, worked out before these run.
 //!
 //! A layout (`stream_match_layouts`) has the positions of all claims. `build` works out the plan of the whole
 //! run over an input: each frame's cells, and pieces that carry output elements into them, each as long as it
