@@ -22,7 +22,7 @@ use Rattle.c_int.proofs.Conversions.{fits, same_int, reduced, again, word_of, mo
 use Rattle.c_int.proofs.Remainders.{small}
 use Rattle.c_int.proofs.TypedOperators.{one_operand, two_operands}
 use Rattle.cddf_meaning.specs.Answers.{Answer, and_then, at_line}
-use Rattle.cddf_meaning.specs.Operators.{operator_of_one, operator_of_two, unary_value, given_by, binary_value}
+use Rattle.cddf_meaning.specs.Operators.{operator_of_one, operator_of_two, unary_value, operated_by, binary_value}
 use Rattle.cddf_meaning.specs.TypedValue.{element_with_type, typed_unary, typed_by, typed_binary}
 use Rattle.cddf_meaning.specs.ExpressionTypes.{type_of_one, type_of_two}
 use Rattle.os_ast.specs.declared.expr.Binary.TheVariants as binary
@@ -202,13 +202,13 @@ unary-int op line u x h =
 
 by-agrees : (o : Option int_binary.Binary) (w : Bool) (line : ℕ) (u v : Bool) (x y : ℤ) → is_int x ≡ true → is_int y ≡ true →
     (is_none o ≡ true → w ≡ false) → GivesType w o (of_type u x) (of_type v y) →
-    typed_by o line (of_type u x) (of_type v y) ≡ and_then (given_by o line u v x y) (element_with_type w)
+    typed_by o line (of_type u x) (of_type v y) ≡ and_then (operated_by o line u v x y) (element_with_type w)
 by-agrees None w line u v x y h k n g = sym (ap (λ t. Ok (of_type t (pos 0))) (n refl))
 by-agrees (Some op) w line u v x y h k n g =
     agree w line (binary_typed op (of_type u x) (of_type v y)) (c_int.binary_value (binary_for u v op) x y) (bits_two op u v x y h k) g
 
 by-int : (o : Option int_binary.Binary) (line : ℕ) (u v : Bool) (x y : ℤ) → is_int x ≡ true → is_int y ≡ true →
-    IntAnswer (given_by o line u v x y)
+    IntAnswer (operated_by o line u v x y)
 by-int None line u v x y h k = refl
 by-int (Some op) line u v x y h k =
     int-given line (binary_typed op (of_type u x) (of_type v y)) (c_int.binary_value (binary_for u v op) x y) (bits_two op u v x y h k)

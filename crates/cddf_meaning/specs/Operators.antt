@@ -46,12 +46,12 @@ abbrev pub unary_value : Unary → ℕ → Bool → ℤ → Answer ℤ
 unary_value op line unsigned a = at_line line (c_int.unary_value (unary_for unsigned (operator_of_one op)) a)
 
 -- `&&` and `||` have no operator of numbers; they are evaluated elsewhere.
-abbrev pub given_by : Option int_binary.Binary → ℕ → (left right : Bool) → ℤ → ℤ → Answer ℤ
-given_by op line left right a b = option_map_or (λ op. at_line line (c_int.binary_value (binary_for left right op) a b)) op (Ok (pos 0))
+abbrev pub operated_by : Option int_binary.Binary → ℕ → (left right : Bool) → ℤ → ℤ → Answer ℤ
+operated_by op line left right a b = option_map_or (λ op. at_line line (c_int.binary_value (binary_for left right op) a b)) op (Ok (pos 0))
 
 -- what an operator with two operands gives that are both evaluated, by their types
 abbrev pub binary_value : Binary → ℕ → (left right : Bool) → ℤ → ℤ → Answer ℤ
-binary_value op line left right a b = given_by (operator_of_two op) line left right a b
+binary_value op line left right a b = operated_by (operator_of_two op) line left right a b
 
 -- `++` adds 1, and `--` takes 1, in the type of the target: 1 is an `int`.
 abbrev pub step_operator : Step → Binary

@@ -28,11 +28,11 @@ body failing activation inputs =
     option_map_or (λ (e : TaskEnd). outcome_of e []) (slice_index_or failing activation None) (outcome_of Done (pos 7 ∷ []))
 
 -- what a run comes to, and its report
-abbrev pub run : List Activation → List (Option TaskEnd) → Ends
-run activations failing = stream_ends activations [] (stream_meaning activations [] (body failing))
+abbrev pub ends_of_run : List Activation → List (Option TaskEnd) → Ends
+ends_of_run activations failing = stream_ends activations [] (stream_meaning activations [] (body failing))
 
 abbrev pub told : List Activation → List (Option TaskEnd) → List ℕ
-told activations failing = report activations 0 (run activations failing) control_end.Done
+told activations failing = report activations 0 (ends_of_run activations failing) control_end.Done
 
 -- The first activation traps. The second one reads what it should have written, and the third one what the second should
 -- have written, and an element that nobody writes.

@@ -17,7 +17,7 @@ ghost use Rattle.collector.specs.Laws.{
   ProducersAreStarved,
 };
 ghost use Rattle.collector.specs.Reported.{AreOfState};
-ghost use Rattle.collector.specs.Runs.{run, told, handed_on, two_roots, stops_at_poison};
+ghost use Rattle.collector.specs.Runs.{ends_of_run, told, handed_on, two_roots, stops_at_poison};
 ghost use Rattle.collector.specs.Written.{written};
 
 /// What is written is the longest prefix of the output that has values alone.
@@ -68,5 +68,5 @@ pub fn small_runs()
         ++ line (codes "control done") ++ line (codes "output 0 of 1") }
     ensures stops_at_poison { told stops_at_poison (None ∷ Some OverBudget ∷ [])
         ≡ line (codes "over-budget 1") ++ line (codes "control done") ++ line (codes "output 1 of 3") }
-    ensures writes_before_poison { written (run stops_at_poison (None ∷ Some OverBudget ∷ [])).output ≡ 7 ∷ [] }
+    ensures writes_before_poison { written (ends_of_run stops_at_poison (None ∷ Some OverBudget ∷ [])).output ≡ 7 ∷ [] }
 {}

@@ -141,7 +141,7 @@ fn horizon_of(slots: &[i32], window: Option<u32>) -> Option<u32>
     }
 }
 
-/// Sets the captured values: those of slots.
+/// Copies the values of the captured slots, in their order.
 #[inline(always)]
 pub(crate) fn set_captured(slots: &[i32], captured: &[u32], values: &mut [i32])
     requires there { All (λ slot. slot < length slots.now) captured.now }

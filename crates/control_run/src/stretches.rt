@@ -40,7 +40,7 @@ impl<'c> ControlRun<'c> {
     ghost use Rattle.os_code.specs.Codes.{parts_of};
     ghost use Rattle.os_code.specs.Tasks.{Fits};
     ghost use Rattle.stream_match_layouts.specs.Lawful.{AreLawful};
-    ghost use Rattle.control_run.specs.Stretches.{IsPartOfStretch, StepsTold, TurnsTold, advanced, end_told, given_by, not_begun, remaining, whole};
+    ghost use Rattle.control_run.specs.Stretches.{IsPartOfStretch, StepsTold, TurnsTold, advanced, created_so_far, end_told, not_begun, remaining, whole};
 
     /// A run that has not begun. The input has so many bytes; the budget is in turns: each iteration of a loop, each call
     /// and each tick takes one. It takes memory for what the longest chain of calls needs, and a number for each stream.
@@ -87,11 +87,11 @@ impl<'c> ControlRun<'c> {
         ensures run { IfOk result (λ _. self.new ≡ advanced self.old at_most) }
         ensures some_of_them { OnErr result (IsPartOfStretch self.old at_most self.new into.old into.new) }
         // what the run had given and what this call gives are together what it has now given: all of it where the run has ended
-        ensures joined { IfOk result (λ _. given_by self.new ≡ given_by self.old ++ take at_most (remaining self.old)) }
-        ensures all { IfOk result (λ ended. IsTrue ended → given_by self.new ≡ (whole self.new).activations) }
+        ensures joined { IfOk result (λ _. created_so_far self.new ≡ created_so_far self.old ++ take at_most (remaining self.old)) }
+        ensures all { IfOk result (λ ended. IsTrue ended → created_so_far self.new ≡ (whole self.new).activations) }
         // each of them fits the code, and they are what a layout takes
-        ensures fit { All (Fits self.new.code) (given_by self.new) }
-        ensures lawful { AreLawful self.new.code.streams (given_by self.new) }
+        ensures fit { All (Fits self.new.code) (created_so_far self.new) }
+        ensures lawful { AreLawful self.new.code.streams (created_so_far self.new) }
     {
         match self.stage {
             Stage::Ended(_) => return Ok(true),

@@ -4,7 +4,7 @@ use Rattle.std.specs.Prelude.{IfSome, nat_lt}
 use Rattle.std.proofs.lemmas.Bool.{cases_lt, lt-ltb}
 use Rattle.std.proofs.lemmas.List.{drop-append-le, drop_all, length-append, length-take, take_min}
 use Rattle.std.proofs.lemmas.List.Elements.{All-nil}
-use Rattle.control_run.specs.Stretches.{RunSoFar, end_told, given_by, not_begun, remaining, whole}
+use Rattle.control_run.specs.Stretches.{RunSoFar, created_so_far, end_told, not_begun, remaining, whole}
 use Rattle.epoch_run_bodies.specs.Frames.{code_ends, frame_outcome}
 use Rattle.epoch_run_bodies.specs.Laws.{LaterActivationsChangeNothing}
 use Rattle.flow_core_epochs.specs.Epoch.{IsHeld, open_in}
@@ -63,8 +63,8 @@ module _ (code : Code) (input : List ℕ) (budgets : Budgets) where
     held = record { before = []; new = []; are_all = no_given; meant = nothing };
   }
     where
-      no_given : given_by run ≡ []
-      no_given = ap given_by is
+      no_given : created_so_far run ≡ []
+      no_given = ap created_so_far is
 
       meant_first : IsHeld [] input (frame_outcome (parts_of code) [] budgets.task) held.ends.ends (map kept_of held.kept.items) held.ends.output
       meant_first =
@@ -94,7 +94,7 @@ module _ (code : Code) (input : List ℕ) (budgets : Budgets) where
 
   module _ (run : Standing) (small : AreBudgets budgets) (stands : StandsAt code input budgets run) where
     abbrev all : List Activation
-    all = given_by run.control
+    all = created_so_far run.control
 
     lawful : AreLawful (length run.layout.writers) all
     lawful = subst (λ n. AreLawful n all) (sym stands.streams) stands.lawful
@@ -163,14 +163,14 @@ module _ (code : Code) (input : List ℕ) (budgets : Budgets) where
       next_is : next ≡ take count (remaining run.control)
       next_is = made.is_list ∙ ap (λ xs. xs ++ take count (remaining run.control)) is_empty
 
-      given : all ++ next ≡ given_by after
+      given : all ++ next ≡ created_so_far after
       given = ap (λ xs. all ++ xs) next_is ∙ sym made.joined
 
       after_code : after.code ≡ parts_of code
       after_code = ap (λ (r : RunSoFar). r.code) made.is_run ∙ stands.code_is
 
       all_lawful : AreLawful code.streams (all ++ next)
-      all_lawful = subst (AreLawful code.streams) (sym given) (subst (λ (p : Parts). AreLawful p.streams (given_by after)) after_code made.lawful)
+      all_lawful = subst (AreLawful code.streams) (sym given) (subst (λ (p : Parts). AreLawful p.streams (created_so_far after)) after_code made.lawful)
 
       pub takes_more : TakesMore run.layout next
       takes_more = record { before = all; is_of = stands.laid; lawful = subst (λ n. AreLawful n (all ++ next)) (sym stands.streams) all_lawful }
@@ -189,7 +189,7 @@ module _ (code : Code) (input : List ℕ) (budgets : Budgets) where
         are_last = are ∙ ap (λ xs. xs ++ next) is.are_last ∙ sym (drop-append-le ran.first all next is.within) ∙ ap (drop ran.first) given;
         have_ended = is.have_ended;
         within = let l = ap length given ∙ refl in let m = length-append all next in let w = is.within in omega (arith, l, m, w);
-        fit = subst (λ (p : Parts). All (Fits p) (given_by after)) after_code made.fit;
+        fit = subst (λ (p : Parts). All (Fits p) (created_so_far after)) after_code made.fit;
         lawful = subst (AreLawful code.streams) given all_lawful;
         has_output = stands.has_output;
         streams = streams ∙ stands.streams;
@@ -202,10 +202,10 @@ module _ (code : Code) (input : List ℕ) (budgets : Budgets) where
       has_ended = ap (λ (r : RunSoFar). r.has_ended) made.is_run
 
       -- where the run hasn't ended, there are more activations
-      pub grows : (end : Option ControlEnd) → end ≡ end_told after → end ≡ None → length all < length (given_by after)
+      pub grows : (end : Option ControlEnd) → end ≡ end_told after → end ≡ None → length all < length (created_so_far after)
       grows end told none = by (cases_lt (length (remaining run.control)) count)
         where
-          by : (length (remaining run.control) < count) ⊎ (count ≤ length (remaining run.control)) → length all < length (given_by after)
+          by : (length (remaining run.control) < count) ⊎ (count ≤ length (remaining run.control)) → length all < length (created_so_far after)
           by (inl lt) =
               let e : Some (whole after).end ≡ None = sym (ap (λ b. cond b (Some (whole after).end) None) (has_ended ∙ lt-ltb (length (remaining run.control)) count lt)) ∙ sym told ∙ none in
               absurd (cc)
@@ -223,7 +223,7 @@ module _ (code : Code) (input : List ℕ) (budgets : Budgets) where
           by true is = (sym has_ended ∙ is, let s : Some e ≡ Some (whole after).end = told ∙ ap (λ b. cond b (Some (whole after).end) None) is in cc)
           by false is = let z : Some e ≡ None = told ∙ ap (λ b. cond b (Some (whole after).end) None) is in absurd (cc)
 
-      pub all_created : (end : Option ControlEnd) → end ≡ end_told after → IfSome end (λ e. given_by after ≡ created (parts_of code) input budgets)
+      pub all_created : (end : Option ControlEnd) → end ≡ end_told after → IfSome end (λ e. created_so_far after ≡ created (parts_of code) input budgets)
       all_created None told = tt
       all_created (Some e) told = made.all (ended_so e told).0 ∙ ap (λ (c : Control). c.activations) whole_is
 

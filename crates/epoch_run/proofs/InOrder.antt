@@ -4,7 +4,7 @@ use Rattle.std.specs.Prelude.{IfSome, IsSome, Bool, cond, false, is_some, nat_lt
 use Rattle.std.specs.Option.{option_map}
 use Rattle.std.proofs.lemmas.Bool.{ltb-false}
 use Rattle.std.proofs.lemmas.List.{drop_at, get_or_default, get_or-drop, length-append, length-drop, length-map, length-take, length-take-le, take-append-drop, take_all, take_at, take_min}
-use Rattle.control_run.specs.Stretches.{RunSoFar, end_told, given_by, remaining, whole}
+use Rattle.control_run.specs.Stretches.{RunSoFar, created_so_far, end_told, remaining, whole}
 use Rattle.epoch_run_bodies.specs.Frames.{frame_outcome}
 use Rattle.epoch_run_bodies.specs.Laws.{LaterActivationsChangeNothing}
 use Rattle.epoch_run_in_order.specs.Standing.{AreLast, IsReady, StandsBehind, meaning_in}
@@ -106,7 +106,7 @@ module _ (code : Code) (input : List ℕ) (budgets : Budgets) where
 
   module _ (so_far : RunSoFar) (layout : Layout) (laid : AreLaidOut code input budgets so_far layout) where
     abbrev given : List Activation
-    given = given_by so_far
+    given = created_so_far so_far
 
     pub lawful_there : AreLawful (length layout.writers) given
     lawful_there = subst (λ n. AreLawful n given) (sym laid.streams) laid.lawful
@@ -146,14 +146,14 @@ module _ (code : Code) (input : List ℕ) (budgets : Budgets) where
 
     -- the next stretch
     module _ (count : ℕ) (after : RunSoFar) (next : List Activation) (made : HasCreated count so_far after [] next) where
-      joins : given ++ next ≡ given_by after
+      joins : given ++ next ≡ created_so_far after
       joins = ap (λ (xs : List Activation). given ++ xs) made.is_list ∙ sym made.joined
 
       after_code : after.code ≡ parts_of code
       after_code = ap (λ (r : RunSoFar). r.code) made.is_run ∙ laid.code_is
 
-      after_lawful : AreLawful code.streams (given_by after)
-      after_lawful = subst (λ (p : Parts). AreLawful p.streams (given_by after)) after_code made.lawful
+      after_lawful : AreLawful code.streams (created_so_far after)
+      after_lawful = subst (λ (p : Parts). AreLawful p.streams (created_so_far after)) after_code made.lawful
 
       pub takes_next : TakesMore layout next
       takes_next = record { before = given; is_of = laid.laid; lawful = subst (λ n. AreLawful n (given ++ next)) (sym laid.streams) (subst (AreLawful code.streams) (sym joins) after_lawful) }
@@ -164,7 +164,7 @@ module _ (code : Code) (input : List ℕ) (budgets : Budgets) where
         code_is = after_code;
         input_is = ap (λ (r : RunSoFar). r.input_len) made.is_run ∙ laid.input_is;
         budget_is = ap (λ (r : RunSoFar). r.budget) made.is_run ∙ laid.budget_is;
-        fit = subst (λ (p : Parts). All (Fits p) (given_by after)) after_code made.fit;
+        fit = subst (λ (p : Parts). All (Fits p) (created_so_far after)) after_code made.fit;
         lawful = after_lawful;
         has_output = laid.has_output;
         streams = streams ∙ laid.streams;
@@ -173,14 +173,14 @@ module _ (code : Code) (input : List ℕ) (budgets : Budgets) where
       }
 
       -- those before it are the first of those behind it, and it has the others
-      pub first_stay : take (length given) (given_by after) ≡ given
+      pub first_stay : take (length given) (created_so_far after) ≡ given
       first_stay = ap (take (length given)) (sym joins) ∙ take_at given next (length given) refl
 
-      pub next_are_last : next ≡ drop (length given) (given_by after)
+      pub next_are_last : next ≡ drop (length given) (created_so_far after)
       next_are_last = sym (ap (drop (length given)) (sym joins) ∙ drop_at given next (length given) refl)
 
   -- a run in control order begins behind activations that all have ended
-  pub begins_in_order : LaterActivationsChangeNothing → (run : Standing) → StandsAt code input budgets run → IsHeldOf (parts_of code) (given_by run.control) input budgets.task run.held
+  pub begins_in_order : LaterActivationsChangeNothing → (run : Standing) → StandsAt code input budgets run → IsHeldOf (parts_of code) (created_so_far run.control) input budgets.task run.held
       → length run.held.without_end ≡ 0 → (order : InOrder) → IsReady code order → length order.ends ≡ length run.held.ends.ends
       → ((every before : List Activation) (bytes : List ℕ) (budget : ℕ) → IsLayoutOf run.layout before
       → IsHeld before bytes (frame_outcome (parts_of code) every budget) run.held.ends.ends (map kept_of run.held.kept.items) run.held.ends.output
@@ -199,7 +199,7 @@ module _ (code : Code) (input : List ℕ) (budgets : Budgets) where
   }
     where
       given_so : List Activation
-      given_so = given_by run.control
+      given_so = created_so_far run.control
 
       ends_many : length run.held.ends.ends ≡ length given_so
       ends_many = ap length meant.is_meant.ends_are_meant ∙ length-ends given_so input (body given_so)
@@ -227,30 +227,30 @@ module _ (code : Code) (input : List ℕ) (budgets : Budgets) where
   -- the next stretch is behind those that ran
   pub next_stretch : (run : Standing) (order : InOrder) → HaveRunInOrder code input budgets run order → (count : ℕ) (after : Standing)
       → HasCreated count run.control after.control [] after.activations → after.first ≡ frame_count run.layout
-      → IsLayoutOf after.layout (given_by run.control ++ after.activations) → length after.layout.writers ≡ length run.layout.writers → after.layout.input_len ≡ run.layout.input_len
+      → IsLayoutOf after.layout (created_so_far run.control ++ after.activations) → length after.layout.writers ≡ length run.layout.writers → after.layout.input_len ≡ run.layout.input_len
       → GoesInOrder code input budgets after order × (after.first ≡ length order.ends)
   next_stretch run order ran count after made first is streams over = (
     record {
       laid_out = next_laid_out run.control run.layout ran.goes.laid_out count after.control after.activations made after.layout is streams over;
-      are_last = next_are_last run.control run.layout ran.goes.laid_out count after.control after.activations made ∙ ap (λ n. drop n (given_by after.control)) (sym starts);
+      are_last = next_are_last run.control run.layout ran.goes.laid_out count after.control after.activations made ∙ ap (λ n. drop n (created_so_far after.control)) (sym starts);
       have_run = omega (arith, behind_all);
-      within = let m = ap length made.joined ∙ length-append (given_by run.control) (take count (remaining run.control)) in let a = ran.all in omega (arith, m, a);
+      within = let m = ap length made.joined ∙ length-append (created_so_far run.control) (take count (remaining run.control)) in let a = ran.all in omega (arith, m, a);
       ready = ran.goes.ready;
       behind = subst (λ (xs : List Activation). StandsBehind (parts_of code) all xs input budgets.task order) same_taken ran.goes.behind;
     },
     behind_all,
   )
     where
-      starts : after.first ≡ length (given_by run.control)
-      starts = first ∙ frame_count-is run.layout (given_by run.control) ran.goes.laid_out.laid
+      starts : after.first ≡ length (created_so_far run.control)
+      starts = first ∙ frame_count-is run.layout (created_so_far run.control) ran.goes.laid_out.laid
 
       behind_all : after.first ≡ length order.ends
       behind_all = starts ∙ sym ran.all
 
-      same_taken : take (length order.ends) (given_by run.control) ≡ take (length order.ends) (given_by after.control)
+      same_taken : take (length order.ends) (created_so_far run.control) ≡ take (length order.ends) (created_so_far after.control)
       same_taken =
-          take_all (length order.ends) (given_by run.control) (let a = ran.all in omega (arith, a))
-          ∙ sym (ap (λ n. take n (given_by after.control)) ran.all ∙ first_stay run.control run.layout ran.goes.laid_out count after.control after.activations made)
+          take_all (length order.ends) (created_so_far run.control) (let a = ran.all in omega (arith, a))
+          ∙ sym (ap (λ n. take n (created_so_far after.control)) ran.all ∙ first_stay run.control run.layout ran.goes.laid_out count after.control after.activations made)
 
   -- the activations of a stretch are the next ones of the layout
   pub are_next : (run : Standing) (order : InOrder) → GoesInOrder code input budgets run order → run.first ≡ length order.ends
@@ -268,7 +268,7 @@ module _ (code : Code) (input : List ℕ) (budgets : Budgets) where
   }
     where
       given_so : List Activation
-      given_so = given_by run.control
+      given_so = created_so_far run.control
 
       next_is : slice ≡ drop (length order.ends) given_so
       next_is = is ∙ goes.are_last ∙ ap (λ n. drop n given_so) first
@@ -280,7 +280,7 @@ module _ (code : Code) (input : List ℕ) (budgets : Budgets) where
       → StandsBehind (parts_of code) every (take (length order.ends) given) input budgets.task order
       → StandsBehind (parts_of code) every (take (length order.ends + count) given) input budgets.task after) where
     abbrev given_then : List Activation
-    given_then = given_by run.control
+    given_then = created_so_far run.control
 
     slice_is : slice ≡ drop (length order.ends) given_then
     slice_is = is ∙ goes.are_last ∙ ap (λ n. drop n given_then) first
@@ -326,7 +326,7 @@ module _ (code : Code) (input : List ℕ) (budgets : Budgets) where
   }
     where
       given_so : List Activation
-      given_so = given_by run.control
+      given_so = created_so_far run.control
 
       many : length after.ends ≡ length order.ends
       many = ap length same
@@ -357,7 +357,7 @@ module _ (code : Code) (input : List ℕ) (budgets : Budgets) where
   }
     where
       given_so : List Activation
-      given_so = given_by run.control
+      given_so = created_so_far run.control
 
       before : List Activation
       before = take (length order.ends) given_so
@@ -385,13 +385,13 @@ module _ (code : Code) (input : List ℕ) (budgets : Budgets) where
         are_open = none ∙ none_open held.ends.ends (length held.ends.ends) (λ a lt. ended a (let e = ap length ends in omega (arith, e, lt)));
       }
 
-  module _ (so_far : RunSoFar) (layout : Layout) (laid : AreLaidOut code input budgets so_far layout) (told : so_far.has_ended ≡ true → given_by so_far ≡ (whole so_far).activations) where
+  module _ (so_far : RunSoFar) (layout : Layout) (laid : AreLaidOut code input budgets so_far layout) (told : so_far.has_ended ≡ true → created_so_far so_far ≡ (whole so_far).activations) where
     -- where the control program has ended, these are all
-    pub are_all_told : (end : Option ControlEnd) → end ≡ end_told so_far → IfSome end (λ e. given_by so_far ≡ all)
+    pub are_all_told : (end : Option ControlEnd) → end ≡ end_told so_far → IfSome end (λ e. created_so_far so_far ≡ all)
     are_all_told None is = tt
     are_all_told (Some e) is = by so_far.has_ended refl
       where
-        by : (b : Bool) → so_far.has_ended ≡ b → given_by so_far ≡ all
+        by : (b : Bool) → so_far.has_ended ≡ b → created_so_far so_far ≡ all
         by true ended = told ended ∙ ap (λ (c : Control). c.activations) (whole_is so_far layout laid)
         by false ended = let z : Some e ≡ None = is ∙ ap (λ b. cond b (Some (whole so_far).end) None) ended in absurd (cc)
 
@@ -419,12 +419,12 @@ module _ (count : ℕ) (before after : RunSoFar) (list next : List Activation) (
   ended_is : after.has_ended ≡ nat_lt (length (remaining before)) count
   ended_is = ap (λ (r : RunSoFar). r.has_ended) made.is_run
 
-  pub grown : 1 ≤ count → after.has_ended ≡ false → length (given_by before) < length (given_by after)
+  pub grown : 1 ≤ count → after.has_ended ≡ false → length (created_so_far before) < length (created_so_far after)
   grown some on =
       let ge = ltb-false (length (remaining before)) count (sym ended_is ∙ on) in
-      let l = ap length made.joined ∙ length-append (given_by before) (take count (remaining before)) in
+      let l = ap length made.joined ∙ length-append (created_so_far before) (take count (remaining before)) in
       let n = length-take count (remaining before) in
       omega (arith, ge, l, n, some)
 
-  pub has_told : after.has_ended ≡ true → given_by after ≡ (whole after).activations
+  pub has_told : after.has_ended ≡ true → created_so_far after ≡ (whole after).activations
   has_told ended = made.all (sym ended_is ∙ ended)

@@ -3,7 +3,7 @@ use Rattle.std.proofs.Common.{◌≡◌, ℕ, ◌+◌, ◌≤◌, List, [], ◌+
 use Rattle.std.specs.Prelude.{All}
 use Rattle.std.proofs.lemmas.List.{drop_all, length-append, length-take, length-take-le, take-append-drop, take-take, take_all}
 use Rattle.std.proofs.lemmas.List.Elements.{All-nil}
-use Rattle.control_run.specs.Stretches.{RunSoFar, given_by, not_begun, remaining, whole}
+use Rattle.control_run.specs.Stretches.{RunSoFar, created_so_far, not_begun, remaining, whole}
 use Rattle.epoch_run_in_order.specs.Standing.{IsReady, StandsApart, StandsBehind}
 use Rattle.epoch_run_in_order.specs.declared.apart.Apart.{Apart}
 use Rattle.epoch_run_in_order.specs.declared.in_order.InOrder.{InOrder}
@@ -39,7 +39,7 @@ module _ (code : Code) (input : List ℕ) (budgets : Budgets) where
   }
     where
       given : List Activation
-      given = given_by run.control
+      given = created_so_far run.control
 
       first : given ≡ take (length given) all
       first = are_first code input budgets run.control run.layout ran.goes.laid_out
@@ -51,7 +51,7 @@ module _ (code : Code) (input : List ℕ) (budgets : Budgets) where
       same = ap (take (length order.ends)) first ∙ take-take (length order.ends) (length given) all ran.goes.within
 
   -- all are created and laid out
-  pub shared_out : (so_far : RunSoFar) (layout : Layout) (order : InOrder) → AreLaidOut code input budgets so_far layout → so_far.has_ended ≡ true → given_by so_far ≡ (whole so_far).activations
+  pub shared_out : (so_far : RunSoFar) (layout : Layout) (order : InOrder) → AreLaidOut code input budgets so_far layout → so_far.has_ended ≡ true → created_so_far so_far ≡ (whole so_far).activations
       → FirstOnesRan code input budgets order → AreSharedOut code input budgets so_far layout order
   shared_out so_far layout order laid ended told ran = record {
     laid_out = laid;
@@ -85,11 +85,11 @@ module _ (code : Code) (input : List ℕ) (budgets : Budgets) where
   pub laid_on : (run after : Standing) (count : ℕ) → AreLaidOut code input budgets run.control run.layout → HasCreated count run.control after.control [] after.activations
       → ((before : List Activation) → IsLayoutOf run.layout before → IsLayoutOf after.layout (before ++ after.activations)) → length after.layout.writers ≡ length run.layout.writers
       → after.layout.input_len ≡ run.layout.input_len → AreLaidOut code input budgets after.control after.layout
-  laid_on run after count laid made is streams over = next_laid_out code input budgets run.control run.layout laid count after.control after.activations made after.layout (is (given_by run.control) laid.laid) streams over
+  laid_on run after count laid made is streams over = next_laid_out code input budgets run.control run.layout laid count after.control after.activations made after.layout (is (created_so_far run.control) laid.laid) streams over
 
   -- those that haven't run are the others
   pub taken_up : (run : Standing) (after : Standing) (order : InOrder) → AreSharedOut code input budgets run.control run.layout order
-      → AreLaidOut code input budgets after.control after.layout → given_by after.control ≡ all
+      → AreLaidOut code input budgets after.control after.layout → created_so_far after.control ≡ all
       → after.first ≡ length order.ends → after.activations ≡ drop (length order.ends) all
       → GoesInOrder code input budgets after order
   taken_up run after order shared laid same first list = record {
@@ -102,7 +102,7 @@ module _ (code : Code) (input : List ℕ) (budgets : Budgets) where
   }
 
   -- with none left
-  pub none_left : (run : Standing) (order : InOrder) → AreSharedOut code input budgets run.control run.layout order → length (given_by run.control) ≤ length order.ends → [] ≡ drop (length order.ends) all
+  pub none_left : (run : Standing) (order : InOrder) → AreSharedOut code input budgets run.control run.layout order → length (created_so_far run.control) ≤ length order.ends → [] ≡ drop (length order.ends) all
   none_left run order shared all_ran = sym (drop_all (length order.ends) all (let s = ap length shared.all in omega (arith, s, all_ran)))
 
   -- before the control program has created any
@@ -120,12 +120,12 @@ module _ (code : Code) (input : List ℕ) (budgets : Budgets) where
     laid = subst (IsLayoutOf layout) (sym no_given) laid;
   }
     where
-      no_given : given_by so_far ≡ []
-      no_given = ap given_by is
+      no_given : created_so_far so_far ≡ []
+      no_given = ap created_so_far is
 
   -- those that ran are created and laid out, and no others
   pub created_anew : (run : Standing) (order : InOrder) → FirstOnesRan code input budgets order → AreLaidOut code input budgets run.control run.layout
-      → length (given_by run.control) ≡ length order.ends → run.first ≡ length order.ends → run.activations ≡ [] → HaveRunInOrder code input budgets run order
+      → length (created_so_far run.control) ≡ length order.ends → run.first ≡ length order.ends → run.activations ≡ [] → HaveRunInOrder code input budgets run order
   created_anew run order ran laid count first none = record {
     goes = record {
       laid_out = laid;
@@ -139,7 +139,7 @@ module _ (code : Code) (input : List ℕ) (budgets : Budgets) where
   }
     where
       given : List Activation
-      given = given_by run.control
+      given = created_so_far run.control
 
       same : take (length order.ends) all ≡ take (length order.ends) given
       same =
@@ -166,9 +166,9 @@ module _ (count : ℕ) (before after : RunSoFar) (next : List Activation) (made 
   pub same_whole : length (whole after).activations ≡ length (whole before).activations
   same_whole = ap (λ (r : RunSoFar). length (whole r).activations) made.is_run
 
-  pub grows_by : length (given_by before) + count ≤ length (whole before).activations → length (given_by after) ≡ length (given_by before) + count
+  pub grows_by : length (created_so_far before) + count ≤ length (whole before).activations → length (created_so_far after) ≡ length (created_so_far before) + count
   grows_by within =
-      let w = sym (ap length (take-append-drop before.given (whole before).activations)) ∙ length-append (given_by before) (remaining before) in
-      let l = ap length made.joined ∙ length-append (given_by before) (take count (remaining before)) in
+      let w = sym (ap length (take-append-drop before.given (whole before).activations)) ∙ length-append (created_so_far before) (remaining before) in
+      let l = ap length made.joined ∙ length-append (created_so_far before) (take count (remaining before)) in
       let n = length-take-le count (remaining before) (omega (arith, w, within)) in
       omega (arith, l, n)

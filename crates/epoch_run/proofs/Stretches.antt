@@ -5,7 +5,7 @@ use Rattle.std.proofs.lemmas.Bool.{cases_lt, le-ltb, lt-ltb, ltb-false}
 use Rattle.std.proofs.lemmas.List.{append_assoc, drop-drop, length-append, length-drop, length-take-le}
 use Rattle.std.proofs.lemmas.List.Prefix.{front_rest}
 use Rattle.std.proofs.Math.Seq.{take-add}
-use Rattle.control_run.specs.Stretches.{RunSoFar, advanced, given_by, remaining, whole}
+use Rattle.control_run.specs.Stretches.{RunSoFar, advanced, created_so_far, remaining, whole}
 use Rattle.flow_core_laws.specs.declared.activation.Activation.{Activation}
 use Rattle.epoch_run.specs.Standing.{HasAdvanced, HasCreated}
 
@@ -55,7 +55,7 @@ module _ (m n : ℕ) (before between after : RunSoFar) (list longer longest : Li
   goes_on = record {
     is_list = two.is_list ∙ ap (λ xs. xs ++ take n (remaining between)) one.is_list ∙ behind list;
     is_run = is_run;
-    joined = two.joined ∙ ap (λ xs. xs ++ take n (remaining between)) one.joined ∙ behind (given_by before);
+    joined = two.joined ∙ ap (λ xs. xs ++ take n (remaining between)) one.joined ∙ behind (created_so_far before);
     all = λ h. two.all (fewer ∙ h);
     fit = two.fit;
     lawful = two.lawful;

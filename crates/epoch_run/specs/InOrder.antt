@@ -1,6 +1,6 @@
 -- Where a run stands that goes in control order.
 use Rattle.std.specs.Prelude.{◌≡◌, ℕ, ◌≤◌, All, List, drop, length, take}
-use Rattle.control_run.specs.Stretches.{RunSoFar, given_by}
+use Rattle.control_run.specs.Stretches.{RunSoFar, created_so_far}
 use Rattle.epoch_run_in_order.specs.Standing.{IsReady, StandsBehind}
 use Rattle.epoch_run_in_order.specs.declared.in_order.InOrder.{InOrder}
 use Rattle.os_code.specs.Codes.{parts_of}
@@ -18,24 +18,25 @@ pub record AreLaidOut (code : Code) (input : List ℕ) (budgets : Budgets) (so_f
   pub code_is : so_far.code ≡ parts_of code
   pub input_is : so_far.input_len ≡ length input
   pub budget_is : so_far.budget ≡ budgets.control
-  pub fit : All (Fits (parts_of code)) (given_by so_far)
-  pub lawful : AreLawful code.streams (given_by so_far)
+  pub fit : All (Fits (parts_of code)) (created_so_far so_far)
+  pub lawful : AreLawful code.streams (created_so_far so_far)
   pub has_output : 2 ≤ code.streams
   pub streams : length layout.writers ≡ code.streams
   pub over : layout.input_len ≡ length input
-  pub laid : IsLayoutOf layout (given_by so_far)
+  pub laid : IsLayoutOf layout (created_so_far so_far)
 
 -- Some of the activations so far have run in control order, the first ones, with the bodies of all that will come. The list has all from
 -- a number on, and those before it have run.
 pub record GoesInOrder (code : Code) (input : List ℕ) (budgets : Budgets) (run : Standing) (order : InOrder) : Type 0 where
   pub laid_out : AreLaidOut code input budgets run.control run.layout
-  pub are_last : run.activations ≡ drop run.first (given_by run.control)
+  pub are_last : run.activations ≡ drop run.first (created_so_far run.control)
   pub have_run : run.first ≤ length order.ends
-  pub within : length order.ends ≤ length (given_by run.control)
+  pub within : length order.ends ≤ length (created_so_far run.control)
   pub ready : IsReady code order
-  pub behind : StandsBehind (parts_of code) (created (parts_of code) input budgets) (take (length order.ends) (given_by run.control)) input budgets.task order
+  pub behind : StandsBehind (parts_of code) (created (parts_of code) input budgets) (take (length order.ends) (created_so_far run.control)) input
+      budgets.task order
 
 -- all of them have
 pub record HaveRunInOrder (code : Code) (input : List ℕ) (budgets : Budgets) (run : Standing) (order : InOrder) : Type 0 where
   pub goes : GoesInOrder code input budgets run order
-  pub all : length order.ends ≡ length (given_by run.control)
+  pub all : length order.ends ≡ length (created_so_far run.control)

@@ -1,6 +1,6 @@
 -- Where a run stands that is shared out.
 use Rattle.std.specs.Prelude.{◌≡◌, ℕ, ◌≤◌, true, List, length, take}
-use Rattle.control_run.specs.Stretches.{RunSoFar, given_by}
+use Rattle.control_run.specs.Stretches.{RunSoFar, created_so_far}
 use Rattle.epoch_run_in_order.specs.Standing.{IsReady, StandsBehind}
 use Rattle.epoch_run_in_order.specs.declared.in_order.InOrder.{InOrder}
 use Rattle.os_code.specs.Codes.{parts_of}
@@ -29,7 +29,7 @@ pub record FirstOnesRan (code : Code) (input : List ℕ) (budgets : Budgets) (or
 pub record AreSharedOut (code : Code) (input : List ℕ) (budgets : Budgets) (so_far : RunSoFar) (layout : Layout) (order : InOrder) : Type 0 where
   pub laid_out : AreLaidOut code input budgets so_far layout
   pub ended : so_far.has_ended ≡ true
-  pub all : given_by so_far ≡ created (parts_of code) input budgets
+  pub all : created_so_far so_far ≡ created (parts_of code) input budgets
   pub ran : FirstOnesRan code input budgets order
 
 -- What shares leave that were run: all activations are created and laid out, the first ones have run, and no fewer than before.

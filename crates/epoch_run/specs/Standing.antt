@@ -1,6 +1,6 @@
 -- Where a run stands between two epochs.
 use Rattle.std.specs.Prelude.{◌≡◌, ℕ, ◌<◌, ◌≤◌, true, nat_lt, All, List, [], ◌++◌, drop, length, take}
-use Rattle.control_run.specs.Stretches.{RunSoFar, advanced, given_by, remaining, whole}
+use Rattle.control_run.specs.Stretches.{RunSoFar, advanced, created_so_far, remaining, whole}
 use Rattle.flow_core_laws.specs.Outcome.{has_end_at}
 use Rattle.flow_core_laws.specs.declared.activation.Activation.{Activation}
 use Rattle.os_code.specs.Codes.{parts_of}
@@ -18,10 +18,10 @@ use Rattle.epoch_run.specs.declared.standing.Standing.{Standing}
 pub record HasCreated (count : ℕ) (before after : RunSoFar) (list added_to : List Activation) : Type 0 where
   pub is_list : added_to ≡ list ++ take count (remaining before)
   pub is_run : after ≡ advanced before count
-  pub joined : given_by after ≡ given_by before ++ take count (remaining before)
-  pub all : nat_lt (length (remaining before)) count ≡ true → given_by after ≡ (whole after).activations
-  pub fit : All (Fits after.code) (given_by after)
-  pub lawful : AreLawful after.code.streams (given_by after)
+  pub joined : created_so_far after ≡ created_so_far before ++ take count (remaining before)
+  pub all : nat_lt (length (remaining before)) count ≡ true → created_so_far after ≡ (whole after).activations
+  pub fit : All (Fits after.code) (created_so_far after)
+  pub lawful : AreLawful after.code.streams (created_so_far after)
 
 -- it has created some of them, at most so many, or all where fewer remained
 pub record HasAdvanced (at_most : ℕ) (before after : RunSoFar) (list added_to : List Activation) : Type 0 where
@@ -48,16 +48,16 @@ pub record StandsAt (code : Code) (input : List ℕ) (budgets : Budgets) (run : 
   pub code_is : run.control.code ≡ parts_of code
   pub input_is : run.control.input_len ≡ length input
   pub budget_is : run.control.budget ≡ budgets.control
-  pub are_last : run.activations ≡ drop run.first (given_by run.control)
+  pub are_last : run.activations ≡ drop run.first (created_so_far run.control)
   pub have_ended : (a : ℕ) → a < run.first → has_end_at run.held.ends.ends a ≡ true
-  pub within : run.first ≤ length (given_by run.control)
-  pub fit : All (Fits (parts_of code)) (given_by run.control)
-  pub lawful : AreLawful code.streams (given_by run.control)
+  pub within : run.first ≤ length (created_so_far run.control)
+  pub fit : All (Fits (parts_of code)) (created_so_far run.control)
+  pub lawful : AreLawful code.streams (created_so_far run.control)
   pub has_output : 2 ≤ code.streams
   pub streams : length run.layout.writers ≡ code.streams
   pub over : run.layout.input_len ≡ length input
-  pub laid : IsLayoutOf run.layout (given_by run.control)
-  pub held : IsHeldBefore (parts_of code) (given_by run.control) input budgets.task run.held
+  pub laid : IsLayoutOf run.layout (created_so_far run.control)
+  pub held : IsHeldBefore (parts_of code) (created_so_far run.control) input budgets.task run.held
 
 -- An epoch over these activations was run. The list has all of them from a number on, and those before it have ended.
 pub record HasRun (code : Code) (input : List ℕ) (budgets : Budgets) (given : List Activation) (run : Standing) : Type 0 where

@@ -80,8 +80,7 @@ impl Borders {
         self.in_first(number.saturating_sub(1), longest, 0)
     }
 
-    /// How long it takes so many workers to run all activations, where the first of them is busy with other work for a time. Both times are counted
-    /// in the activations that one worker runs in them.
+    /// The time in which `count` workers run all, where the first of them is busy for `busy`; both in activations that one worker runs.
     fn longest(self, count: u32, busy: u64) -> u64 {
         let (time, less) = self.weights(count);
         self.all
@@ -98,8 +97,8 @@ impl Borders {
             / ONE
     }
 
-    /// Two weights, in parts of `ONE`. So many workers run as many activations as the time that they have times the first weight, less the time for
-    /// which the first of them is busy times the second. Each passes the activations of those before it, and has less time for its own.
+    /// How many more activations `count` workers run for each unit of time, and how many fewer for each that the first one is busy, in parts of
+    /// `ONE`. Each of them passes the activations of those before it, and has less time for its own.
     fn weights(self, count: u32) -> (u64, u64) {
         let mut grows: u64 = 0;
         let mut shrinks: u64 = 0;

@@ -1,7 +1,7 @@
 //! Going on in control order: stretch by stretch, with no plan, as long as each activation finds there what it reads.
 
 ghost use Rattle.std.specs.Prelude.{◌≡◌, ◌++◌, ◌<◌, ◌≤◌, ℕ, IsTrue, List, [], None, true, false, IfOk, IfSome, OnOk, length, map};
-ghost use Rattle.control_run.specs.Stretches.{RunSoFar, given_by, whole};
+ghost use Rattle.control_run.specs.Stretches.{RunSoFar, created_so_far, whole};
 ghost use Rattle.epoch_run_bodies.specs.Frames.{frame_outcome};
 ghost use Rattle.epoch_run_in_order.specs.Standing.{IsReady, StandsBehind, meaning_in};
 ghost use Rattle.epoch_run_in_order_laws.specs.InOrder.{HaveAllEnded};
@@ -59,11 +59,11 @@ pub(crate) fn run_in_order<'c, R: Threads + Sync, G: Gate>(
     requires input { length input.now ≤ input_limit }
     requires budgets { AreBudgets budgets }
     requires stands { StandsAt code.now input.now budgets run.old }
-    requires ran { IsHeldOf (parts_of code.now) (given_by run.old.control) input.now budgets.task run.old.held }
+    requires ran { IsHeldOf (parts_of code.now) (created_so_far run.old.control) input.now budgets.task run.old.held }
     requires none { length run.old.held.without_end ≡ 0 }
     ensures stands { IfOk result (λ _. StandsAt code.now input.now budgets run.new) }
-    ensures grows { IfOk result (λ end. end ≡ None → length (given_by run.old.control) < length (given_by run.new.control)) }
-    ensures all { IfOk result (λ end. IfSome end (λ _. given_by run.new.control ≡ created (parts_of code.now) input.now budgets)) }
+    ensures grows { IfOk result (λ end. end ≡ None → length (created_so_far run.old.control) < length (created_so_far run.new.control)) }
+    ensures all { IfOk result (λ end. IfSome end (λ _. created_so_far run.new.control ≡ created (parts_of code.now) input.now budgets)) }
     ensures end { IfOk result (λ end. IfSome end (λ e. e ≡ (control (parts_of code.now) (length input.now) budgets.control).end)) }
 {
     later_activations_change_nothing();
@@ -114,8 +114,8 @@ fn run_on<'c, R: Threads + Sync, G: Gate>(
     requires budgets { AreBudgets budgets }
     requires ran { HaveRunInOrder code.now input.now budgets run.old order.old }
     ensures goes { OnOk result (GoesInOrder code.now input.now budgets run.new order.new) }
-    ensures grows { OnOk result (run.new.control.has_ended ≡ false → length (given_by run.old.control) < length (given_by run.new.control)) }
-    ensures told { OnOk result (run.new.control.has_ended ≡ true → given_by run.new.control ≡ (whole run.new.control).activations) }
+    ensures grows { OnOk result (run.new.control.has_ended ≡ false → length (created_so_far run.old.control) < length (created_so_far run.new.control)) }
+    ensures told { OnOk result (run.new.control.has_ended ≡ true → created_so_far run.new.control ≡ (whole run.new.control).activations) }
 {
     if workers == 1 {
         run_stretches(run, order, alloc, code, input, budgets, workers, gate, MOST)?;
@@ -150,8 +150,8 @@ fn run_stretches<G: Gate>(
     requires budgets { AreBudgets budgets }
     requires ran { HaveRunInOrder code.now input.now budgets run.old order.old }
     ensures goes { OnOk result (GoesInOrder code.now input.now budgets run.new order.new) }
-    ensures grows { OnOk result (run.new.control.has_ended ≡ false → length (given_by run.old.control) < length (given_by run.new.control)) }
-    ensures told { OnOk result (run.new.control.has_ended ≡ true → given_by run.new.control ≡ (whole run.new.control).activations) }
+    ensures grows { OnOk result (run.new.control.has_ended ≡ false → length (created_so_far run.old.control) < length (created_so_far run.new.control)) }
+    ensures told { OnOk result (run.new.control.has_ended ≡ true → created_so_far run.new.control ≡ (whole run.new.control).activations) }
     ensures all { IfOk result (λ more. IsTrue more → HaveRunInOrder code.now input.now budgets run.new order.new) }
 {
     let goes_on = 'stretches: loop {
@@ -184,8 +184,8 @@ fn run_stretch<G: Gate>(
     requires budgets { AreBudgets budgets }
     requires ran { HaveRunInOrder code.now input.now budgets run.old order.old }
     ensures goes { OnOk result (GoesInOrder code.now input.now budgets run.new order.new) }
-    ensures grows { OnOk result (run.new.control.has_ended ≡ false → length (given_by run.old.control) < length (given_by run.new.control)) }
-    ensures told { OnOk result (run.new.control.has_ended ≡ true → given_by run.new.control ≡ (whole run.new.control).activations) }
+    ensures grows { OnOk result (run.new.control.has_ended ≡ false → length (created_so_far run.old.control) < length (created_so_far run.new.control)) }
+    ensures told { OnOk result (run.new.control.has_ended ≡ true → created_so_far run.new.control ≡ (whole run.new.control).activations) }
     ensures all { IfOk result (λ more. IsTrue more → HaveRunInOrder code.now input.now budgets run.new order.new) }
     ensures more { IfOk result (λ more. IsTrue more → run.new.control.has_ended ≡ false) }
 {

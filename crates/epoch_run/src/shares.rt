@@ -3,7 +3,7 @@
 ghost use Rattle.std.specs.Prelude.{◌≡◌, ◌≤◌, ℕ, List, true, IfOk, IfSome, OnOk, length};
 ghost use Rattle.flow_core_laws.specs.Limits.{input_limit};
 ghost use denote.Param.Send.{IsSync};
-ghost use Rattle.control_run.specs.Stretches.{given_by, whole};
+ghost use Rattle.control_run.specs.Stretches.{created_so_far, whole};
 ghost use Rattle.os_code.specs.Codes.{parts_of};
 ghost use Rattle.os_code.specs.declared.code.Code.{Code};
 ghost use Rattle.epoch_run_in_order.specs.Standing.{IsReady};
@@ -173,7 +173,7 @@ fn lay_out_rest(run: &mut Standing<'_>, alloc: Global) -> Result<(), Memory>
     ensures laid { OnOk result ((code : Code) (input : List ℕ) (budgets : Budgets) → AreLaidOut code input budgets run.old.control run.old.layout
         → AreLaidOut code input budgets run.new.control run.new.layout) }
     ensures ended { OnOk result (run.new.control.has_ended ≡ true) }
-    ensures told { OnOk result (given_by run.new.control ≡ (whole run.new.control).activations) }
+    ensures told { OnOk result (created_so_far run.new.control ≡ (whole run.new.control).activations) }
 {
     'stretches: loop {
         create_stretch(run, alloc, STRETCH)?;

@@ -2,7 +2,7 @@
 
 ghost use Rattle.std.specs.Prelude.{◌≡◌, ◌≤◌, ℕ, List, [], false, true, IfOk, OnOk, length};
 ghost use Rattle.flow_core_laws.specs.Limits.{input_limit};
-ghost use Rattle.control_run.specs.Stretches.{given_by, whole};
+ghost use Rattle.control_run.specs.Stretches.{created_so_far, whole};
 ghost use Rattle.os_code.specs.Codes.{parts_of};
 ghost use Rattle.os_code.specs.declared.code.Code.{Code};
 ghost use Rattle.epoch_run.specs.InOrder.{AreLaidOut, GoesInOrder, HaveRunInOrder};
@@ -45,9 +45,9 @@ pub(crate) fn share_out<'c, R: Threads + Sync>(
     requires ran { HaveRunInOrder code.now input.now budgets run.old order.old }
     ensures goes { IfOk result (λ all. all ≡ true → GoesInOrder code.now input.now budgets run.new order.new) }
     ensures ended { IfOk result (λ all. all ≡ true → run.new.control.has_ended ≡ true) }
-    ensures told { IfOk result (λ all. all ≡ true → given_by run.new.control ≡ (whole run.new.control).activations) }
+    ensures told { IfOk result (λ all. all ≡ true → created_so_far run.new.control ≡ (whole run.new.control).activations) }
     ensures stays { IfOk result (λ all. all ≡ false → HaveRunInOrder code.now input.now budgets run.new order.new) }
-    ensures no_fewer { IfOk result (λ all. all ≡ false → length (given_by run.old.control) ≤ length (given_by run.new.control)) }
+    ensures no_fewer { IfOk result (λ all. all ≡ false → length (created_so_far run.old.control) ≤ length (created_so_far run.new.control)) }
     ensures none_lost { OnOk result (length order.old.ends ≤ length order.new.ends) }
 {
     let first = order.ends.len() as u32;
@@ -121,7 +121,7 @@ fn take_up<'c>(
     requires shared { AreSharedOut code.now input.now budgets run.old.control run.old.layout order.now }
     ensures goes { IfOk result (λ all. all ≡ true → GoesInOrder code.now input.now budgets run.new order.now) }
     ensures ended { IfOk result (λ all. all ≡ true → run.new.control.has_ended ≡ true) }
-    ensures told { IfOk result (λ all. all ≡ true → given_by run.new.control ≡ (whole run.new.control).activations) }
+    ensures told { IfOk result (λ all. all ≡ true → created_so_far run.new.control ≡ (whole run.new.control).activations) }
     ensures stays { IfOk result (λ all. all ≡ false → HaveRunInOrder code.now input.now budgets run.new order.now) }
 {
     run.first = order.ends.len() as u32;
@@ -146,7 +146,7 @@ fn create_anew<'c>(
     requires budgets { AreBudgets budgets }
     requires within { count ≤ length (created (parts_of code.now) input.now budgets) }
     ensures laid { OnOk result (AreLaidOut code.now input.now budgets run.new.control run.new.layout) }
-    ensures count { OnOk result (length (given_by run.new.control) ≡ count) }
+    ensures count { OnOk result (length (created_so_far run.new.control) ≡ count) }
     ensures first { OnOk result (run.new.first ≡ count) }
     ensures none { OnOk result (run.new.activations ≡ []) }
 {
@@ -163,11 +163,11 @@ fn create_anew<'c>(
 /// Has a control program that has created nothing yet create so many activations, stretch by stretch, and lays them out.
 fn lay_out_first(run: &mut Standing<'_>, alloc: Global, count: u32) -> Result<(), Memory>
     requires laid { IsLaidOut run.old.control run.old.layout }
-    requires none { length (given_by run.old.control) ≡ 0 }
+    requires none { length (created_so_far run.old.control) ≡ 0 }
     requires within { count ≤ length (whole run.old.control).activations }
     ensures laid { OnOk result ((code : Code) (input : List ℕ) (budgets : Budgets) → AreLaidOut code input budgets run.old.control run.old.layout
         → AreLaidOut code input budgets run.new.control run.new.layout) }
-    ensures count { OnOk result (length (given_by run.new.control) ≡ count) }
+    ensures count { OnOk result (length (created_so_far run.new.control) ≡ count) }
 {
     let mut left = count;
     'stretches: while left > 0 {

@@ -1,5 +1,5 @@
 ghost use Rattle.std.specs.Prelude.{◌≡◌, ◌<◌, ◌≤◌, ℕ, List, [], None, IfOk, IfSome, IsTrue, OnOk, length, true};
-ghost use Rattle.control_run.specs.Stretches.{given_by};
+ghost use Rattle.control_run.specs.Stretches.{created_so_far};
 ghost use Rattle.flow_core_laws.specs.Limits.{activations_limit, input_limit, workers_limit};
 ghost use Rattle.flow_core_laws.specs.declared.activation.Activation.{Activation};
 ghost use Rattle.os_code.specs.Codes.{parts_of};
@@ -110,8 +110,8 @@ impl<'c> Standing<'c> {
         requires stands { StandsAt code.now input.now budgets self.old }
         requires some { 1 ≤ size.activations }
         ensures stands { IfOk result (λ _. StandsAt code.now input.now budgets self.new) }
-        ensures grows { IfOk result (λ end. end ≡ None → length (given_by self.old.control) < length (given_by self.new.control)) }
-        ensures all { IfOk result (λ end. IfSome end (λ _. given_by self.new.control ≡ created (parts_of code.now) input.now budgets)) }
+        ensures grows { IfOk result (λ end. end ≡ None → length (created_so_far self.old.control) < length (created_so_far self.new.control)) }
+        ensures all { IfOk result (λ end. IfSome end (λ _. created_so_far self.new.control ≡ created (parts_of code.now) input.now budgets)) }
         ensures end { IfOk result (λ end. IfSome end (λ e. e ≡ (control (parts_of code.now) (length input.now) budgets.control).end)) }
     {
         if way == Way::InOrder && self.may_go_in_order(workers) {
@@ -152,8 +152,8 @@ impl<'c> Standing<'c> {
         requires stands { StandsAt code.now input.now budgets self.old }
         requires some { 1 ≤ size.activations }
         ensures stands { IfOk result (λ _. StandsAt code.now input.now budgets self.new) }
-        ensures grows { IfOk result (λ end. end ≡ None → length (given_by self.old.control) < length (given_by self.new.control)) }
-        ensures all { IfOk result (λ end. IfSome end (λ _. given_by self.new.control ≡ created (parts_of code.now) input.now budgets)) }
+        ensures grows { IfOk result (λ end. end ≡ None → length (created_so_far self.old.control) < length (created_so_far self.new.control)) }
+        ensures all { IfOk result (λ end. IfSome end (λ _. created_so_far self.new.control ≡ created (parts_of code.now) input.now budgets)) }
         ensures end { IfOk result (λ end. IfSome end (λ e. e ≡ (control (parts_of code.now) (length input.now) budgets.control).end)) }
     {
         self.run(rt, alloc, code, input, budgets, workers, gate)?;
@@ -180,8 +180,8 @@ impl<'c> Standing<'c> {
         requires stands { StandsAt code.now input.now budgets self.old }
         requires some { 1 ≤ size.activations }
         ensures stands { IfOk result (λ _. StandsAt code.now input.now budgets self.new) }
-        ensures grows { IfOk result (λ end. end ≡ None → length (given_by self.old.control) < length (given_by self.new.control)) }
-        ensures all { IfOk result (λ end. IfSome end (λ _. given_by self.new.control ≡ created (parts_of code.now) input.now budgets)) }
+        ensures grows { IfOk result (λ end. end ≡ None → length (created_so_far self.old.control) < length (created_so_far self.new.control)) }
+        ensures all { IfOk result (λ end. IfSome end (λ _. created_so_far self.new.control ≡ created (parts_of code.now) input.now budgets)) }
         ensures end { IfOk result (λ end. IfSome end (λ e. e ≡ (control (parts_of code.now) (length input.now) budgets.control).end)) }
     {
         self.run_and_create(rt, alloc, code, input, budgets, workers, gate, size)?;
@@ -298,7 +298,7 @@ impl<'c> Standing<'c> {
         requires stands { StandsAt code.now input.now budgets self.old }
         requires some { 1 ≤ size.activations }
         requires none { next.old ≡ [] }
-        ensures run { OnOk result (HasRun code.now input.now budgets (given_by self.old.control) self.new) }
+        ensures run { OnOk result (HasRun code.now input.now budgets (created_so_far self.old.control) self.new) }
         ensures advanced { OnOk result (HasAdvanced size.activations self.old.control self.new.control next.old next.new) }
         ensures layout { OnOk result (self.new.layout ≡ self.old.layout) }
         ensures laid { IfOk result (λ laid. ComeBehind self.old.layout next.new laid) }
@@ -343,7 +343,7 @@ impl<'c> Standing<'c> {
         requires workers { (1 ≤ workers) × (workers ≤ workers_limit) }
         requires budgets { AreBudgets budgets }
         requires stands { StandsAt code.now input.now budgets self.old }
-        ensures run { OnOk result (HasRun code.now input.now budgets (given_by self.old.control) self.new) }
+        ensures run { OnOk result (HasRun code.now input.now budgets (created_so_far self.old.control) self.new) }
         ensures same { OnOk result (self.new ≡ record self.old { held = self.new.held }) }
     {
         later_activations_change_nothing();
@@ -396,11 +396,11 @@ impl<'c> Standing<'c> {
         requires workers { (1 ≤ workers) × (workers ≤ workers_limit) }
         requires budgets { AreBudgets budgets }
         requires stands { StandsAt code.now input.now budgets self.old }
-        ensures layout { OnOk result (IsLayoutOf self.new.layout (given_by self.old.control)) }
+        ensures layout { OnOk result (IsLayoutOf self.new.layout (created_so_far self.old.control)) }
         ensures whole { OnOk result (IsLayout self.new.layout) }
         ensures streams { OnOk result (length self.new.layout.writers ≡ code.now.streams) }
         ensures input { OnOk result (self.new.layout.input_len ≡ length input.now) }
-        ensures ends { OnOk result (self.new.held.ends ≡ code_ends (parts_of code.now) (given_by self.old.control) input.now budgets.task) }
+        ensures ends { OnOk result (self.new.held.ends ≡ code_ends (parts_of code.now) (created_so_far self.old.control) input.now budgets.task) }
     {
         let all = self.runs_all(alloc)?;
         if all {
@@ -440,11 +440,11 @@ impl<'c> Standing<'c> {
         requires budgets { AreBudgets budgets }
         requires stands { StandsAt code.now input.now budgets self.old }
         requires all { self.old.first ≡ 0 }
-        ensures layout { OnOk result (IsLayoutOf self.new.layout (given_by self.old.control)) }
+        ensures layout { OnOk result (IsLayoutOf self.new.layout (created_so_far self.old.control)) }
         ensures whole { OnOk result (IsLayout self.new.layout) }
         ensures streams { OnOk result (length self.new.layout.writers ≡ code.now.streams) }
         ensures input { OnOk result (self.new.layout.input_len ≡ length input.now) }
-        ensures ends { OnOk result (self.new.held.ends ≡ code_ends (parts_of code.now) (given_by self.old.control) input.now budgets.task) }
+        ensures ends { OnOk result (self.new.held.ends ≡ code_ends (parts_of code.now) (created_so_far self.old.control) input.now budgets.task) }
     {
         let bodies = TaskBodies {
             code,
@@ -469,11 +469,11 @@ impl<'c> Standing<'c> {
         requires workers { (1 ≤ workers) × (workers ≤ workers_limit) }
         requires budgets { AreBudgets budgets }
         requires stands { StandsAt code.now input.now budgets self.old }
-        ensures layout { OnOk result (IsLayoutOf self.new.layout (given_by self.old.control)) }
+        ensures layout { OnOk result (IsLayoutOf self.new.layout (created_so_far self.old.control)) }
         ensures whole { OnOk result (IsLayout self.new.layout) }
         ensures streams { OnOk result (length self.new.layout.writers ≡ code.now.streams) }
         ensures input { OnOk result (self.new.layout.input_len ≡ length input.now) }
-        ensures ends { OnOk result (self.new.held.ends ≡ code_ends (parts_of code.now) (given_by self.old.control) input.now budgets.task) }
+        ensures ends { OnOk result (self.new.held.ends ≡ code_ends (parts_of code.now) (created_so_far self.old.control) input.now budgets.task) }
     {
         self.run(rt, alloc, code, input, budgets, workers, gate)?;
         Ok(())

@@ -3,7 +3,7 @@ use Rattle.std.proofs.Common.{◌≡◌, ℕ, ◌+◌, ◌≤◌, Bool, List, []
 use Rattle.std.specs.Prelude.{not, slice_get}
 use Rattle.std.specs.List.{range_with_len}
 use Rattle.std.proofs.lemmas.List.{append_assoc, length-append, length-take, length-take-le, take-append-drop, take_all, take_at, take_min}
-use Rattle.control_run.specs.Stretches.{RunSoFar, given_by, not_begun, whole}
+use Rattle.control_run.specs.Stretches.{RunSoFar, created_so_far, not_begun, whole}
 use Rattle.epoch_run_in_order.specs.Standing.{IsReady, StandsApart}
 use Rattle.epoch_run_in_order.specs.declared.apart.Apart.{Apart}
 use Rattle.flow_core_laws.specs.Place.{written_count}
@@ -44,7 +44,7 @@ module _ (code : Code) (input : List ℕ) (budget : ℕ) where
       let all : List Activation = (whole walk.control).activations in
       let n = length-take walk.control.given all in
       record {
-        count = length (given_by walk.control);
+        count = length (created_so_far walk.control);
         within = omega (arith, n);
         ready = st.ready;
         ran_to = st.ran_to ∙ st.walked.have_passed.count;
@@ -66,7 +66,7 @@ module _ (code : Code) (input : List ℕ) (budget : ℕ) where
 
   module _ (walk : Walk) (apart : Apart) (st : Stands code input budget walk apart) (at_most : ℕ) (run : RunSoFar) (next : List Activation) (ended : Bool) (given : HasGiven at_most walk.control run next ended) where
     abbrev before : List Activation
-    before = given_by walk.control
+    before = created_so_far walk.control
 
     abbrev every : List Activation
     every = (whole walk.control).activations
@@ -87,10 +87,10 @@ module _ (code : Code) (input : List ℕ) (budget : ℕ) where
     passed_before = subst (λ (p : Parts). HavePassed p.streams before walk.positions) st.code_is st.walked.have_passed
 
     fit_next : All (Fits (parts_of code)) next
-    fit_next = All-back (Fits (parts_of code)) before next (subst (All (Fits (parts_of code))) given.joined (subst (λ (p : Parts). All (Fits p) (given_by run)) run_code given.fit))
+    fit_next = All-back (Fits (parts_of code)) before next (subst (All (Fits (parts_of code))) given.joined (subst (λ (p : Parts). All (Fits p) (created_so_far run)) run_code given.fit))
 
     lawful_next : AreLawful code.streams (before ++ next)
-    lawful_next = subst (AreLawful code.streams) given.joined (subst (λ (p : Parts). AreLawful p.streams (given_by run)) run_code given.lawful)
+    lawful_next = subst (AreLawful code.streams) given.joined (subst (λ (p : Parts). AreLawful p.streams (created_so_far run)) run_code given.lawful)
 
     pub may_run : (slice : List Activation) (positions : Positions) → slice ≡ next → positions ≡ walk.positions → MayRun code slice positions apart
     may_run slice positions is same = subst (λ (p : Positions). MayRun code slice p apart) (sym same) (subst (λ (xs : List Activation). MayRun code xs walk.positions apart) (sym is)
@@ -151,13 +151,13 @@ module _ (code : Code) (input : List ℕ) (budget : ℕ) where
             let p = passed_before.count in
             let n = passed_now.count in
             let a = some.all on in
-            let all : before ++ take some.count next ≡ given_by run = ap (λ ys. before ++ ys) (take_all some.count next (omega (arith, a))) ∙ sym given.joined in
+            let all : before ++ take some.count next ≡ created_so_far run = ap (λ ys. before ++ ys) (take_all some.count next (omega (arith, a))) ∙ sym given.joined in
             record {
               code_is = run_code;
-              walked = record { have_passed = subst (λ (p : Parts). HavePassed p.streams (given_by run) now) (sym run_code) (subst (λ (xs : List Activation). HavePassed code.streams xs now) (sym given.joined) passed_now) };
+              walked = record { have_passed = subst (λ (p : Parts). HavePassed p.streams (created_so_far run) now) (sym run_code) (subst (λ (xs : List Activation). HavePassed code.streams xs now) (sym given.joined) passed_now) };
               ready = some.ran.ready;
               ran_to = omega (arith, r, p, n, a, size, length-append before next);
-              stands = subst (λ (xs : List Activation). StandsApart (parts_of code) xs after.first (given_by run) input budget after.order) (sym same_all)
+              stands = subst (λ (xs : List Activation). StandsApart (parts_of code) xs after.first (created_so_far run) input budget after.order) (sym same_all)
                   (subst (λ (xs : List Activation). StandsApart (parts_of code) every after.first xs input budget after.order) all stands_there);
             }
 
@@ -176,15 +176,15 @@ module _ (code : Code) (input : List ℕ) (budget : ℕ) where
       → StandsApart (parts_of code) all walk.positions.count earlier bytes turns apart.order)
       → Stands code input budget walk apart
   begins walk code_is walked apart writes writes_are ready first none stands =
-      let h : HavePassed code.streams (given_by walk.control) walk.positions = subst (λ (p : Parts). HavePassed p.streams (given_by walk.control) walk.positions) code_is walked.have_passed in
+      let h : HavePassed code.streams (created_so_far walk.control) walk.positions = subst (λ (p : Parts). HavePassed p.streams (created_so_far walk.control) walk.positions) code_is walked.have_passed in
       let e = ap length none in
       record {
         code_is = code_is;
         walked = walked;
         ready = ready;
         ran_to = omega (arith, first, e);
-        stands = subst (λ n. StandsApart (parts_of code) (whole walk.control).activations n (given_by walk.control) input budget apart.order) (sym first)
-            (stands (whole walk.control).activations (given_by walk.control) input budget (sym h.count) (writes_are ∙ h.writes));
+        stands = subst (λ n. StandsApart (parts_of code) (whole walk.control).activations n (created_so_far walk.control) input budget apart.order) (sym first)
+            (stands (whole walk.control).activations (created_so_far walk.control) input budget (sym h.count) (writes_are ∙ h.writes));
       }
 
   pub is_share : (control_budget len : ℕ) (start last : RunSoFar) (apart : Apart) → len ≡ length input → start ≡ not_begun (parts_of code) len control_budget → IsSameRun start last

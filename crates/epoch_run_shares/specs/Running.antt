@@ -1,6 +1,6 @@
 -- Running on, apart from the activations before.
 use Rattle.std.specs.Prelude.{◌≡◌, ℕ, ◌+◌, ◌<◌, ◌≤◌, true, Bool, All, List, ◌++◌, length, slice_get, take}
-use Rattle.control_run.specs.Stretches.{RunSoFar, given_by, whole}
+use Rattle.control_run.specs.Stretches.{RunSoFar, created_so_far, whole}
 use Rattle.epoch_run_in_order.specs.Standing.{IsReady, StandsApart}
 use Rattle.epoch_run_in_order.specs.declared.apart.Apart.{Apart}
 use Rattle.flow_core_laws.specs.declared.activation.Activation.{Activation}
@@ -47,7 +47,7 @@ pub record Stands (code : Code) (input : List ℕ) (budget : ℕ) (walk : Walk) 
   pub walked : HasWalked walk
   pub ready : IsReady code apart.order
   pub ran_to : apart.first + length apart.order.ends ≡ walk.positions.count
-  pub stands : StandsApart (parts_of code) (whole walk.control).activations apart.first (given_by walk.control) input budget apart.order
+  pub stands : StandsApart (parts_of code) (whole walk.control).activations apart.first (created_so_far walk.control) input budget apart.order
 
 -- A share stands behind some of the activations that the control program will give in all.
 pub record StandsWithin (code : Code) (input : List ℕ) (budget : ℕ) (run : RunSoFar) (apart : Apart) : Type 0 where

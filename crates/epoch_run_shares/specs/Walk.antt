@@ -1,6 +1,6 @@
 -- Walking the control program by stretches.
 use Rattle.std.specs.Prelude.{◌≡◌, ℕ, false, Bool, All, List, ◌++◌, length}
-use Rattle.control_run.specs.Stretches.{RunSoFar, given_by}
+use Rattle.control_run.specs.Stretches.{RunSoFar, created_so_far}
 use Rattle.flow_core_laws.specs.declared.activation.Activation.{Activation}
 use Rattle.os_code.specs.Tasks.{Fits}
 use Rattle.stream_match_layouts.specs.Lawful.{AreLawful}
@@ -16,11 +16,11 @@ pub record IsSameRun (before after : RunSoFar) : Type 0 where
 -- The control program has given at most so many of the next activations, and all that were asked for where it hasn't ended.
 pub record HasGiven (at_most : ℕ) (before after : RunSoFar) (next : List Activation) (ended : Bool) : Type 0 where
   pub same : IsSameRun before after
-  pub joined : given_by after ≡ given_by before ++ next
+  pub joined : created_so_far after ≡ created_so_far before ++ next
   pub going : ended ≡ false → length next ≡ at_most
-  pub fit : All (Fits after.code) (given_by after)
-  pub lawful : AreLawful after.code.streams (given_by after)
+  pub fit : All (Fits after.code) (created_so_far after)
+  pub lawful : AreLawful after.code.streams (created_so_far after)
 
 -- All activations that the control program has given were passed.
 pub record HasWalked (walk : Walk) : Type 0 where
-  pub have_passed : HavePassed walk.control.code.streams (given_by walk.control) walk.positions
+  pub have_passed : HavePassed walk.control.code.streams (created_so_far walk.control) walk.positions

@@ -10,7 +10,7 @@ use Rattle.lowering_draft.specs.Emission.Changes.{change_code}
 use Rattle.lowering_draft.specs.Emission.Conditions.{condition_code}
 use Rattle.lowering_draft.specs.Emission.Declarators.{declarators_code, start_code}
 use Rattle.lowering_draft.specs.Emission.Expressions.{expr_code}
-use Rattle.lowering_draft.specs.Emission.Statements.{Part, block_code, closed, end_of, in_loop, jump_on, loop_code, opened, rest_code, stmt_code, test_code}
+use Rattle.lowering_draft.specs.Emission.Statements.{StmtPart, block_code, closed, end_of, in_loop, jump_on, loop_code, opened, rest_code, stmt_code, test_code}
 use Rattle.lowering_draft.specs.Emission.Tasks.{items_code, tick_code}
 use Rattle.lowering_draft.specs.Few.{units_most}
 use Rattle.lowering_draft.specs.declared.draft.Draft.{Draft}
@@ -33,7 +33,7 @@ use Rattle.os_lexer.specs.declared.token.Punct.TheVariants as puncts
 use Rattle.lowering_relation.specs.Tasks.{TaskTree, all_tasks_of, tasks_of}
 
 -- The tokens of a part pay for its code and for the units of its tasks, and so many more instructions are there.
-abbrev PartPays : Part → Printer → (units more : ℕ) → Type 0
+abbrev PartPays : StmtPart → Printer → (units more : ℕ) → Type 0
 PartPays f p units more = (x : Exits) (next : Option Label) (d : Draft) (rest : List Symbol) →
     length (f x next d).instrs + units + 8 * length rest ≤ length d.instrs + 8 * length (p rest) + more
 
@@ -62,7 +62,7 @@ module _ (tells : ℕ → Resolved) where
   test_pays (Some e) end d rest = omega (arith, condition_pays tells e end d rest)
 
   -- A loop, by the tokens of its test, its step and its body; its unit, its test and its jump are three more.
-  loop_few : (test : Option tree.ExprTree) (step : Option tree.ChangeTree) (x : Exits) (end : Label) (a : Part) (p : Printer) (units : ℕ) → PartPays a p units 0
+  loop_few : (test : Option tree.ExprTree) (step : Option tree.ChangeTree) (x : Exits) (end : Label) (a : StmtPart) (p : Printer) (units : ℕ) → PartPays a p units 0
       → (d : Draft) (rest between behind : List Symbol)
       → length (loop_code tells test step x end a d).instrs + units + 8 * (length rest + length between + length behind)
       ≤ length d.instrs + 8 * (length (p rest) + length (optional expr test between) + length (optional change step behind)) + 3
@@ -190,7 +190,7 @@ module _ (tells : ℕ → Resolved) where
           units_most-append (tasks_of a) (all_tasks_of more),
         )
 
-    rest_pays : (more : tree.Stmts) (a : Part) (p : Printer) (units : ℕ) → PartPays a p units 0
+    rest_pays : (more : tree.Stmts) (a : StmtPart) (p : Printer) (units : ℕ) → PartPays a p units 0
         → (x : Exits) (next : Option Label) (d : Draft) (rest : List Symbol)
         → length (rest_code tells more x next a d).instrs + (units + units_most (all_tasks_of more)) + 8 * length rest
         ≤ length d.instrs + 8 * length (p (stmts more rest))

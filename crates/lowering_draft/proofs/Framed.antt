@@ -7,7 +7,7 @@ use Rattle.lowering_draft.proofs.ExpressionsStand.{stands_plain}
 use Rattle.lowering_draft.proofs.Growing.{Grows, unit_stays}
 use Rattle.lowering_draft.proofs.Keeping.{KeepsLabels, kept, keeps_instrs}
 use Rattle.lowering_draft.specs.Draft.{Becomes, next_label, with_label, with_place, with_places}
-use Rattle.lowering_draft.specs.Emission.Statements.{Part as StmtPart}
+use Rattle.lowering_draft.specs.Emission.Statements.{StmtPart}
 use Rattle.lowering_draft.specs.Emission.Units.{body_code, exits_of, parts_made, place_in, place_or}
 use Rattle.lowering_draft.specs.Going.{AreNumbered, IsLeave}
 use Rattle.lowering_draft.specs.Laws.{MakesGoingOn}

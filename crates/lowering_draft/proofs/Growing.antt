@@ -5,7 +5,7 @@ use Rattle.lowering_draft.proofs.KeptStatements.{block_kept, stmt_kept}
 use Rattle.lowering_draft.proofs.Lists.{slice_get-front}
 use Rattle.lowering_draft.specs.Draft.{next_label, with_label}
 use Rattle.lowering_draft.specs.Emission.Expressions.{Emission}
-use Rattle.lowering_draft.specs.Emission.Statements.{Part as StmtPart, block_code, stmt_code}
+use Rattle.lowering_draft.specs.Emission.Statements.{StmtPart, block_code, stmt_code}
 use Rattle.lowering_draft.specs.Emission.Units.{body_code, exits_of, function_code, main_code, task_code, with_function, with_functions, with_main, with_plain, with_task, with_tasks, with_unit}
 use Rattle.lowering_draft.specs.declared.draft.Label.{Label}
 use Rattle.lowering_draft.specs.declared.exits.Exits.{Exits}

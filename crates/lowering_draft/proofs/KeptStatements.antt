@@ -7,7 +7,7 @@ use Rattle.lowering_draft.proofs.TasksStand.{items_kept, tick_kept}
 use Rattle.lowering_draft.specs.Draft.{next_label, with_label, with_place}
 use Rattle.lowering_draft.specs.Emission.Conditions.{condition_code}
 use Rattle.lowering_draft.specs.Emission.Expressions.{Emission}
-use Rattle.lowering_draft.specs.Emission.Statements.{Part, begin_code, block_code, closed, end_of, in_loop, jump_on, loop_code, opened, rest_code, round_code, stmt_code, test_code}
+use Rattle.lowering_draft.specs.Emission.Statements.{StmtPart, begin_code, block_code, closed, end_of, in_loop, jump_on, loop_code, opened, rest_code, round_code, stmt_code, test_code}
 use Rattle.lowering_draft.specs.declared.draft.Draft.{Draft}
 use Rattle.lowering_draft.specs.declared.draft.Label.{Label}
 use Rattle.lowering_draft.specs.declared.exits.Exits.{Exits}
@@ -17,7 +17,7 @@ use Rattle.os_ast.specs.declared.names.Resolved.{Resolved}
 use Rattle.os_code.specs.declared.instr.Instr.TheVariants.{Drop, Jump, Turn}
 
 -- wherever a part is left and goes on
-abbrev pub KeepsAll : Part → Type 0
+abbrev pub KeepsAll : StmtPart → Type 0
 KeepsAll f = (x : Exits) (next : Option Label) → KeepsLabels (f x next)
 
 pub jump_kept : (next : Option Label) {d m : Draft} → Keeps d m → Keeps d (jump_on next m)
@@ -36,11 +36,11 @@ begun_kept : {test : Emission} → KeepsLabels test → (d : Draft) → Keeps d 
 begun_kept k d = and_then_kept (keeps_instr (keeps_place (keeps_label (kept d)) (next_label d) (next_is_new (kept d))) Turn) k
 
 module _ (tells : ℕ → Resolved) where
-  pub if_kept : (c : tree.ExprTree) (end : Label) (x : Exits) (next : Option Label) {a : Part} → KeepsAll a
+  pub if_kept : (c : tree.ExprTree) (end : Label) (x : Exits) (next : Option Label) {a : StmtPart} → KeepsAll a
       → KeepsLabels (λ d. a x next (condition_code tells c end d))
   if_kept c end x next k d = and_then_kept (condition_kept tells c end d) (k x next)
 
-  pub if_else_kept : (c : tree.ExprTree) (end : Label) (x : Exits) (next : Option Label) {a s : Part} → KeepsAll a → KeepsAll s
+  pub if_else_kept : (c : tree.ExprTree) (end : Label) (x : Exits) (next : Option Label) {a s : StmtPart} → KeepsAll a → KeepsAll s
       → KeepsLabels (λ d. s x next (with_place (a x (Some end) (condition_code tells c (next_label d) (with_label d))) (next_label d)))
   if_else_kept c end x next ka ks d =
       and_then_kept
@@ -53,7 +53,7 @@ module _ (tells : ℕ → Resolved) where
   test_kept None end d = kept d
   test_kept (Some e) end d = condition_kept tells e end d
 
-  pub round_kept : (step : Option tree.ChangeTree) (again : Label) (x : Exits) (end : Label) {a : Part} → KeepsAll a
+  pub round_kept : (step : Option tree.ChangeTree) (again : Label) (x : Exits) (end : Label) {a : StmtPart} → KeepsAll a
       → KeepsLabels (round_code tells step again x end a)
   round_kept None again x end k d = k (in_loop x end again) (Some again) d
   round_kept (Some c) again x end k d =
@@ -62,7 +62,7 @@ module _ (tells : ℕ → Resolved) where
       (change_kept tells c))
       (Jump again.number)
 
-  pub loop_kept : (test : Option tree.ExprTree) (step : Option tree.ChangeTree) (x : Exits) (end : Label) {a : Part} → KeepsAll a
+  pub loop_kept : (test : Option tree.ExprTree) (step : Option tree.ChangeTree) (x : Exits) (end : Label) {a : StmtPart} → KeepsAll a
       → KeepsLabels (loop_code tells test step x end a)
   loop_kept test step x end k d = and_then_kept (begun_kept (test_kept test end) d) (round_kept step (next_label d) x end k)
 
@@ -96,6 +96,6 @@ module _ (tells : ℕ → Resolved) where
     block_kept tree.no_stmts x next d = jump_kept next (kept d)
     block_kept (tree.stmt a rest) x next d = rest_kept rest {a = stmt_code tells a} (stmt_kept a) x next d
 
-    pub rest_kept : (rest : tree.Stmts) {a : Part} → KeepsAll a → (x : Exits) (next : Option Label) → KeepsLabels (rest_code tells rest x next a)
+    pub rest_kept : (rest : tree.Stmts) {a : StmtPart} → KeepsAll a → (x : Exits) (next : Option Label) → KeepsLabels (rest_code tells rest x next a)
     rest_kept tree.no_stmts k x next d = k x next d
     rest_kept (tree.stmt b rest) k x next d = and_then_kept (k x None d) (rest_kept rest {a = stmt_code tells b} (stmt_kept b) x next)

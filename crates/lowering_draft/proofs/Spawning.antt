@@ -6,7 +6,7 @@ use Rattle.lowering_draft.specs.Emission.Changes.{aim_code, change_code, changed
 use Rattle.lowering_draft.specs.Emission.Conditions.{condition_code, conditions_code}
 use Rattle.lowering_draft.specs.Emission.Declarators.{cleared_code, declarators_code, declared_code, scalar_code, start_code, window_code}
 use Rattle.lowering_draft.specs.Emission.Expressions.{Emission, args_code, expr_code, links_code, place_code, with_link, with_unary, worked_out}
-use Rattle.lowering_draft.specs.Emission.Statements.{Part as StmtPart, block_code, closed, end_of, jump_on, loop_code, opened, rest_code, stmt_code, test_code}
+use Rattle.lowering_draft.specs.Emission.Statements.{StmtPart, block_code, closed, end_of, jump_on, loop_code, opened, rest_code, stmt_code, test_code}
 use Rattle.lowering_draft.specs.Emission.Tasks.{burst_code, item_code, items_code, join_code, stream_code, tick_code}
 use Rattle.lowering_draft.specs.declared.draft.Draft.{Draft}
 use Rattle.lowering_draft.specs.declared.draft.Label.{Label}

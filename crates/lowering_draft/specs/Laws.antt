@@ -5,7 +5,7 @@ use Rattle.lowering_draft.specs.Emission.Changes.{change_code}
 use Rattle.lowering_draft.specs.Emission.Conditions.{condition_code}
 use Rattle.lowering_draft.specs.Emission.Declarators.{declarators_code}
 use Rattle.lowering_draft.specs.Emission.Expressions.{Emission, expr_code}
-use Rattle.lowering_draft.specs.Emission.Statements.{Part as StmtPart, block_code, stmt_code}
+use Rattle.lowering_draft.specs.Emission.Statements.{StmtPart, block_code, stmt_code}
 use Rattle.lowering_draft.specs.Emission.Tasks.{items_code}
 use Rattle.lowering_draft.specs.Given.{IsGiven, IsItem}
 use Rattle.lowering_draft.specs.Going.{AreNumbered, GoesOn, IsLeave}

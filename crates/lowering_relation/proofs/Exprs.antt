@@ -7,7 +7,7 @@ use Rattle.c_int.specs.declared.operators.Binary as int_binary
 use Rattle.c_int.specs.declared.operators.Unary.TheVariants as int_unary
 use Rattle.cddf_meaning.specs.Answers.{Answer, and_then, Left, left, with_turns}
 use Rattle.cddf_meaning.specs.File.{variable, or_in_file, type_in}
-use Rattle.cddf_meaning.specs.Operators.{operator_of_one, operator_of_two, given_by, binary_value, unary_value}
+use Rattle.cddf_meaning.specs.Operators.{operator_of_one, operator_of_two, operated_by, binary_value, unary_value}
 use Rattle.cddf_meaning.specs.BodyState.{BodyState}
 use Rattle.cddf_meaning.specs.ExpressionTypes.{type_of_two}
 use Rattle.cddf_meaning.specs.Value.{call_value, scalar_value, elements, element_at, as_truth, linked, value, place_value, values, chained}
@@ -129,7 +129,7 @@ module _ (code : Parts) (callers : List Frame) where
       (twice_not line p n stack m a b)
 
   operates_by : (op : Option int_binary.Binary) (line : ℕ) (u v : Bool) (p to : ℕ) (a b : ℤ) (stack : List ℤ) (m : Store) (turns : ℕ) → Stands code (operation_of op line u v) p to →
-      Meets code (at callers p (b ∷ a ∷ stack) m turns) (pushed callers to stack m) (with_turns turns (given_by op line u v a b))
+      Meets code (at callers p (b ∷ a ∷ stack) m turns) (pushed callers to stack m) (with_turns turns (operated_by op line u v a b))
   operates_by None line u v p to a b stack m turns h =
       gives (left (pos 0) turns) tt
       (leads_on code (drop_top code callers b p (a ∷ stack) m turns h.0)

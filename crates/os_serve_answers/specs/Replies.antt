@@ -28,7 +28,7 @@ reply_of answered.NoJob = no_job
 reply_of answered.NoMemory = no_memory
 reply_of (answered.Done status output report) = record { status = status; output = output.taken; told = report.taken }
 
--- from which state to which a job goes that is answered so
+-- How a job was run: the files before and after it, its line, and the reply.
 abbrev pub JobRun : Type 0 → Type 1
 JobRun S = S → S → List ℕ → Reply → Type 0
 

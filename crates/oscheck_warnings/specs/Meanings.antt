@@ -19,6 +19,6 @@ meaning_at names place = meaning_behind None names place
 abbrev pub meaning : Meanings → ℕ → Option What
 meaning m place = get nat_cmp m.by_place place
 
--- it is kept what these names mean
+-- The map has exactly what these names mean.
 abbrev pub AreMeanings : List Resolved → Meanings → Type 0
 AreMeanings names m = (place : ℕ) → meaning m place ≡ meaning_at names place

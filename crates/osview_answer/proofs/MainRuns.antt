@@ -2,7 +2,7 @@
 use Rattle.std.proofs.Common.{◌≡◌, ◌∙◌, ◌+◌, ◌≤◌, All, ℕ, true, List, None, Some, ap, arith, length, subst, take}
 use Rattle.std.proofs.lemmas.Bool.{lt-ltb}
 use Rattle.std.proofs.lemmas.List.{take_all}
-use Rattle.control_run.specs.Stretches.{MainTakes, RunSoFar, StepsTold, TurnsTold, advanced, given_by, not_begun, remaining}
+use Rattle.control_run.specs.Stretches.{MainTakes, RunSoFar, StepsTold, TurnsTold, advanced, created_so_far, not_begun, remaining}
 use Rattle.control_run.proofs.All.{all-few}
 use Rattle.flow_core_laws.specs.declared.activation.Activation.{Activation}
 use Rattle.os_code.specs.Codes.{parts_of}
@@ -47,10 +47,10 @@ module _ (code : Code) (input_len budget : ℕ) (low : budget ≤ 1000000000) (r
       ap (λ (r : RunSoFar). take 4294967295 (remaining r)) begins
       ∙ take_all 4294967295 (control (parts_of code) input_len budget).activations (omega (arith, few))
 
-  pub all-fit : All (Fits after.code) (given_by after) → All (Fits (parts_of code)) (control (parts_of code) input_len budget).activations
+  pub all-fit : All (Fits after.code) (created_so_far after) → All (Fits (parts_of code)) (control (parts_of code) input_len budget).activations
   all-fit fit =
       let activations = (control (parts_of code) input_len budget).activations in
       let few = all-few (parts_of code) code.valid input_len budget low in
-      let all : given_by after ≡ activations = ap given_by same ∙ all-of activations 4294967295 (omega (arith, few)) in
+      let all : created_so_far after ≡ activations = ap created_so_far same ∙ all-of activations 4294967295 (omega (arith, few)) in
       subst (λ (xs : List Activation). All (Fits (parts_of code)) xs) all
-      (subst (λ (p : Parts). All (Fits p) (given_by after)) (ap (λ (r : RunSoFar). r.code) same) fit)
+      (subst (λ (p : Parts). All (Fits p) (created_so_far after)) (ap (λ (r : RunSoFar). r.code) same) fit)

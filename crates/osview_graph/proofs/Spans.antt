@@ -6,7 +6,7 @@ use Rattle.std.proofs.lemmas.List.{get_or_past, get_or_default}
 use Rattle.flow_core_laws.specs.Window.{Window, windows}
 use Rattle.osview_graph.specs.Drawing.{IsDrawn, run_of}
 use Rattle.osview_graph.specs.DrawnRun.{end_at, is_done}
-use Rattle.osview_graph.specs.Streams.{given_by, no_window, window_at}
+use Rattle.osview_graph.specs.Streams.{no_window, window_at, written_by}
 use Rattle.osview_graph.specs.declared.drawn.Drawn.{Drawn}
 use Rattle.stream_match_layouts.specs.Layout.{span_of}
 use Rattle.stream_match_layouts.specs.Writers.{no_span}
@@ -52,7 +52,7 @@ module _ (drawn : Drawn) (is : IsDrawn drawn) where
       omega (arith, small, same)
 
   -- what a window gives is no more than it covers
-  pub given-le : (k : ℕ) → given_by (run_of drawn) (window_at (run_of drawn) k) ≤ 65536
+  pub given-le : (k : ℕ) → written_by (run_of drawn) (window_at (run_of drawn) k) ≤ 65536
   given-le k = by (window_at (run_of drawn) k).claim.write (is_done (end_at (run_of drawn) (window_at (run_of drawn) k).activation)) where
     by : (b d : Bool) → cond {A = ℕ} (b && d) (window_at (run_of drawn) k).claim.horizon 0 ≤ 65536
     by true true = largest k

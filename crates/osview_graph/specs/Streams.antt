@@ -23,14 +23,14 @@ abbrev pub window_count : DrawnRun → (stream : ℕ) → ℕ
 window_count run stream = total (stream_at run) (λ k. 1) (length (windows run.activations)) stream
 
 -- how many elements a window wrote: all that it covers, where the activation is done; poison is none
-abbrev pub given_by : DrawnRun → Window → ℕ
-given_by run w = if w.claim.write && is_done (end_at run w.activation) then w.claim.horizon else 0
+abbrev pub written_by : DrawnRun → Window → ℕ
+written_by run w = if w.claim.write && is_done (end_at run w.activation) then w.claim.horizon else 0
 
 -- How many elements of a stream are there: as many as the input has, or those that windows wrote.
 abbrev pub written : DrawnRun → (stream : ℕ) → ℕ
 written run stream =
     if stream == 0 then run.input_len
-    else total (stream_at run) (λ k. given_by run (window_at run k)) (length (windows run.activations)) stream
+    else total (stream_at run) (λ k. written_by run (window_at run k)) (length (windows run.activations)) stream
 
 -- whether a window reads for an activation that ran
 abbrev pub has_read : DrawnRun → Window → Bool

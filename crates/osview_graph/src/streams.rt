@@ -1,6 +1,6 @@
 ghost use Rattle.std.specs.Prelude.{◌≡◌, ◌<◌, ◌++◌, ◌+◌, ◌^◌, IfOk, OnOk};
 ghost use Rattle.osview_graph.specs.Drawing.{IsDrawn, run_of};
-ghost use Rattle.osview_graph.specs.Streams.{elements_text, ellipse, ellipse_if_used, ellipses, given_by, has_read, read, window_count, written};
+ghost use Rattle.osview_graph.specs.Streams.{elements_text, ellipse, ellipse_if_used, ellipses, has_read, read, window_count, written, written_by};
 ghost use Rattle.osview_graph.specs.Tables.{AreStreamCounts, newly_behind, read_to, table};
 ghost use Rattle.flow_core_laws.specs.Window.{Window};
 ghost use Rattle.stream_match_layouts.specs.Layout.{span_of};
@@ -39,8 +39,8 @@ fn count_windows(alloc: Global, drawn: &Drawn<'_>) -> Result<Vec<u64>, Memory>
 }
 
 /// How many elements a window wrote.
-fn given_by(drawn: &Drawn<'_>, span: Span) -> u64
-    ensures { (w : Window) → span ≡ span_of w → result ≡ given_by (run_of drawn.now) w }
+fn written_by(drawn: &Drawn<'_>, span: Span) -> u64
+    ensures { (w : Window) → span ≡ span_of w → result ≡ written_by (run_of drawn.now) w }
 {
     if span.write && is_done(drawn.end_at(u64::from(span.frame))) {
         u64::from(span.count)
@@ -56,7 +56,11 @@ fn count_written(alloc: Global, drawn: &Drawn<'_>) -> Result<Vec<u64>, Memory>
 {
     let mut counts = zeros(alloc, drawn.streams as usize)?;
     for span in drawn.layout.spans.as_slice() {
-        raise(&mut counts, u64::from(span.stream), given_by(drawn, *span));
+        raise(
+            &mut counts,
+            u64::from(span.stream),
+            written_by(drawn, *span),
+        );
     }
     set_row(&mut counts, 0, u64::from(drawn.layout.input_len));
     Ok(counts)

@@ -14,7 +14,7 @@ use Rattle.flow_core_laws.specs.declared.task_end.TaskEnd.TheVariants.{Done, Ove
 use Rattle.flow_core_laws.proofs.There.{end_of}
 use Rattle.osview_outcomes.specs.Outcomes.{AreOutcomesOf}
 use Rattle.osview_outcomes.specs.declared.kept.Outcomes.{Outcomes}
-use Rattle.osview_stream.specs.Given.{given_by}
+use Rattle.osview_stream.specs.Given.{element_given}
 use Rattle.stream_match_layouts.specs.Layout.{span_of}
 use Rattle.stream_match_layouts.specs.declared.span.Span.{Span}
 
@@ -24,7 +24,7 @@ module _ (outcomes : Outcomes) (state : State) (are : AreOutcomesOf outcomes sta
   by_end a place end = output_element (root_of a end) (get_or outcomes.outputs a []) place
 
   -- an activation gives what the meaning says
-  pub given_as_meant : (a place : ℕ) → given_by outcomes a place ≡ output_at own_number state a place
+  pub given_as_meant : (a place : ℕ) → element_given outcomes a place ≡ output_at own_number state a place
   given_as_meant a place =
       ap (λ ends. option_and_then (by_end a place) (get_or ends a None)) are.ends
       ∙ ap (option_and_then (by_end a place)) (end_of state a)
@@ -48,15 +48,15 @@ module _ (outcomes : Outcomes) (state : State) (are : AreOutcomesOf outcomes sta
 
   -- the element of a produced position, by the span of its producer
   pub produced : (activations : List Activation) (stream position : ℕ) (span : Span) → Some span ≡ option_map span_of (producer activations stream position)
-      → given_by outcomes span.frame (span.offset + (position - span.first)) ≡ stream_element state (produced_source activations stream position)
+      → element_given outcomes span.frame (span.offset + (position - span.first)) ≡ stream_element state (produced_source activations stream position)
   produced activations stream position span is = by (producer activations stream position) refl is
     where
       by : (o : Option Window) → producer activations stream position ≡ o → Some span ≡ option_map span_of o
-          → given_by outcomes span.frame (span.offset + (position - span.first)) ≡ stream_element state (produced_source activations stream position)
+          → element_given outcomes span.frame (span.offset + (position - span.first)) ≡ stream_element state (produced_source activations stream position)
       by None p h = absurd cc
       by (Some w) p h =
           let at : span ≡ span_of w = cc in
-          ap (λ (s : Span). given_by outcomes s.frame (s.offset + (position - s.first))) at
+          ap (λ (s : Span). element_given outcomes s.frame (s.offset + (position - s.first))) at
           ∙ given_as_meant w.activation (w.offset + (position - w.first))
           ∙ sym (ap (by_source position) p)
 

@@ -7,7 +7,7 @@ use Rattle.flow_core_laws.specs.declared.task_end.TaskEnd.{TaskEnd}
 use Rattle.osview_outcomes.specs.declared.kept.Outcomes.{Outcomes}
 
 -- the element that an activation gives at a place of its outputs, if it has an end
-abbrev pub given_by : Outcomes → (activation place : ℕ) → Option Elem
-given_by outcomes activation place =
+abbrev pub element_given : Outcomes → (activation place : ℕ) → Option Elem
+element_given outcomes activation place =
     option_and_then (λ (end : TaskEnd). output_element (root_of activation end) (slice_index_or outcomes.outputs activation []) place)
     (slice_index_or outcomes.ends.items activation None)

@@ -6,7 +6,7 @@ ghost use Rattle.flow_core_laws.specs.Outcome.{State};
 ghost use Rattle.flow_core_laws.specs.Streams.{input_source, produced_source, stream_element};
 ghost use Rattle.flow_core_laws.specs.Window.{producer};
 ghost use Rattle.osview_outcomes.specs.Outcomes.{AreOutcomesOf};
-ghost use Rattle.osview_stream.specs.Given.{given_by};
+ghost use Rattle.osview_stream.specs.Given.{element_given};
 ghost use Rattle.stream_match_layouts.specs.Layout.{span_of};
 
 use flow_core::{Elem, TaskEnd};
@@ -63,7 +63,7 @@ fn output_element(
 
 /// The element that an activation gives at a place of its outputs, if it has an end.
 fn written_at(outcomes: &Outcomes, activation: u32, place: usize) -> Option<Elem>
-    ensures { result ≡ given_by outcomes.now activation place }
+    ensures { result ≡ element_given outcomes.now activation place }
 {
     match end_of(outcomes, activation) {
         Some(end) => output_element(outcomes, activation, end.root(activation), place),
@@ -74,7 +74,7 @@ fn written_at(outcomes: &Outcomes, activation: u32, place: usize) -> Option<Elem
 /// The element at a position of a stream that a write span covers.
 fn covered_element(outcomes: &Outcomes, span: Span, position: u64) -> Option<Elem>
     requires { position < span.first + span.count }
-    ensures { result ≡ given_by outcomes.now span.frame (span.offset + (position - span.first)) }
+    ensures { result ≡ element_given outcomes.now span.frame (span.offset + (position - span.first)) }
 {
     let place = u64::from(span.offset) + position.saturating_sub(span.first);
     written_at(outcomes, u32::from(span.frame), place as usize)

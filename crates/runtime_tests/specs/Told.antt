@@ -13,4 +13,4 @@ given_before Empty number = []
 given_before Raced number = []
 
 abbrev pub told_shows : Told → LineState
-told_shows line = record { finds = line.finds; races = line.races; bound = line.number + 1; given = given_before line.answer line.number; left = None }
+told_shows line = record { finds = line.finds; races = line.races; bound = line.number + 1; handed_out = given_before line.answer line.number; left = None }

@@ -21,13 +21,13 @@ own_shows line = record {
   finds = line.finds;
   races = 0;
   bound = (worker_view line.owner).bound;
-  given = (worker_view line.owner).taken;
+  handed_out = (worker_view line.owner).taken;
   left = if (worker_view line.owner).parts == whole then Some (length (worker_view line.owner).pushed - length (worker_view line.owner).taken) else None;
 }
 
 -- a thief's end
 abbrev pub steal_shows : StealLine → LineState
-steal_shows line = record { finds = line.finds; races = line.races; bound = (view line.pass).bound; given = (view line.pass).taken; left = None }
+steal_shows line = record { finds = line.finds; races = line.races; bound = (view line.pass).bound; handed_out = (view line.pass).taken; left = None }
 
 -- what names a deque
 abbrev pub Deque : Type 0

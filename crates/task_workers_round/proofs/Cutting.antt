@@ -14,12 +14,12 @@ use Rattle.flow_core_laws.specs.Serves.{Serves}
 use Rattle.flow_core.specs.Counted.{IsCounted}
 use Rattle.flow_core.specs.Shows.{Shows}
 use Rattle.task_workers_round.specs.Results.{MayRun, outputs_of, room_of}
-use Rattle.task_workers_round.specs.Parts.{IsShared, IsPart}
+use Rattle.task_workers_round.specs.Parts.{IsShared, IsPartOfRound}
 
 pub IsShared-from : (plan : Plan) (outcome : ℕ → List ℤ → Outcome) (takes : ℕ → ℕ → ℕ → Type 0) (board : Board) → IsSound plan → Serves plan outcome takes → IsCounted plan board.cells.items board.waits → Shows plan (plan_meaning plan outcome) board.cells.items board.ends.items → IsShared plan outcome takes board
 IsShared-from plan outcome takes board is served counts shown = record { sound = is; served = served; counted = counts; shows = shown }
 
-pub IsPart-from : {W : Type 0} (plan : Plan) (waits : Waits) (fits : W → Type 0) (frames : List ℕ) (ends : List TaskEnd) (outputs : List ℤ) (workers : List W) → All (MayRun plan waits) frames → length ends ≡ length frames → length outputs ≡ room_of plan frames → room_of plan frames ≤ 4194304 → length frames ≤ 65536 → (0 < length workers) × (length workers ≤ 64) → All fits workers → IsPart plan waits fits frames ends outputs workers
+pub IsPart-from : {W : Type 0} (plan : Plan) (waits : Waits) (fits : W → Type 0) (frames : List ℕ) (ends : List TaskEnd) (outputs : List ℤ) (workers : List W) → All (MayRun plan waits) frames → length ends ≡ length frames → length outputs ≡ room_of plan frames → room_of plan frames ≤ 4194304 → length frames ≤ 65536 → (0 < length workers) × (length workers ≤ 64) → All fits workers → IsPartOfRound plan waits fits frames ends outputs workers
 IsPart-from plan waits fits frames ends outputs workers may each room_is few short count fit = record { may_run = may; end_each = each; room = room_is; few = few; frames_are_few = short; some = count.0; at_most = count.1; fitting = fit }
 
 -- the room of a list is that of its front and that of the rest
@@ -31,7 +31,7 @@ room_cut plan frames front back n at_front at_back =
     ∙ ap (room_of plan) (take-append-drop n frames)
 
 module _ {W : Type 0} (plan : Plan) (waits : Waits) (fits : W → Type 0) (frames front back : List ℕ) (ends front_ends back_ends : List TaskEnd) (outputs front_outputs back_outputs : List ℤ) (workers first second : List W) (n low : ℕ) where
-  pub IsPart-cut : IsPart plan waits fits frames ends outputs workers → front ≡ take n frames → back ≡ drop n frames → length front + length back ≡ length frames → length front_ends ≡ length front → length front_ends + length back_ends ≡ length ends → length front_outputs ≡ room_of plan front → length front_outputs + length back_outputs ≡ length outputs → first ≡ take low workers → second ≡ drop low workers → length first + length second ≡ length workers → 0 < length first → 0 < length second → IsPart plan waits fits front front_ends front_outputs first × IsPart plan waits fits back back_ends back_outputs second
+  pub IsPart-cut : IsPartOfRound plan waits fits frames ends outputs workers → front ≡ take n frames → back ≡ drop n frames → length front + length back ≡ length frames → length front_ends ≡ length front → length front_ends + length back_ends ≡ length ends → length front_outputs ≡ room_of plan front → length front_outputs + length back_outputs ≡ length outputs → first ≡ take low workers → second ≡ drop low workers → length first + length second ≡ length workers → 0 < length first → 0 < length second → IsPartOfRound plan waits fits front front_ends front_outputs first × IsPartOfRound plan waits fits back back_ends back_outputs second
   IsPart-cut part at_front at_back frames_of front_end_each ends_of front_room outputs_of at_first at_second workers_of some_first some_second =
       let cut = room_cut plan frames front back n at_front at_back in
       let end_each = part.end_each in

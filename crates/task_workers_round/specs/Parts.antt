@@ -22,7 +22,7 @@ pub record IsShared (plan : Plan) (outcome : ℕ → List ℤ → Outcome) (take
 
 -- A part of a round: frames that may run, room for what each comes to, and 1 to 64 workers whose
 -- scratches fit the bodies.
-pub record IsPart {W : Type 0} (plan : Plan) (waits : Waits) (fits : W → Type 0) (frames : List ℕ) (ends : List TaskEnd) (outputs : List ℤ)
+pub record IsPartOfRound {W : Type 0} (plan : Plan) (waits : Waits) (fits : W → Type 0) (frames : List ℕ) (ends : List TaskEnd) (outputs : List ℤ)
     (workers : List W) : Type 0 where
   pub may_run : All (MayRun plan waits) frames
   pub end_each : length ends ≡ length frames

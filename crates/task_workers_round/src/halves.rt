@@ -7,7 +7,7 @@ ghost use Rattle.flow_core_laws.specs.Serves.{Serves};
 ghost use Rattle.flow_core.specs.Counted.{IsCounted};
 ghost use Rattle.flow_core.specs.Shows.{Shows};
 ghost use Rattle.task_workers_round.specs.Results.{AreResults, MayRun, room_of};
-ghost use Rattle.task_workers_round.specs.Parts.{IsShared, IsPart};
+ghost use Rattle.task_workers_round.specs.Parts.{IsShared, IsPartOfRound};
 
 use crate::gate::Gate;
 use crate::results::outputs_of;
@@ -72,7 +72,7 @@ fn run_part<R: Threads + Sync, B: Bodies<Scratch = S>, G: Gate, S: Send + Drop>(
     workers: &mut [Worker<S>],
 ) -> Result<(), Memory>
     requires shared { IsShared plan.now (B.outcome bodies.now) (B.takes bodies.now) board.now }
-    requires part { IsPart plan.now board.now.waits (λ w. B.fits bodies.now w.scratch)
+    requires part { IsPartOfRound plan.now board.now.waits (λ w. B.fits bodies.now w.scratch)
         frames.now ends.old outputs.old workers.old }
     ensures results { OnOk result (AreResults plan.now (plan_meaning plan.now (B.outcome bodies.now))
         frames.now ends.new outputs.new) }
@@ -153,9 +153,9 @@ fn both_halves<R: Threads + Sync, B: Bodies<Scratch = S>, G: Gate, S: Send + Dro
     second: &mut [Worker<S>],
 ) -> Result<(), Memory>
     requires shared { IsShared plan.now (B.outcome bodies.now) (B.takes bodies.now) board.now }
-    requires front { IsPart plan.now board.now.waits (λ w. B.fits bodies.now w.scratch)
+    requires front { IsPartOfRound plan.now board.now.waits (λ w. B.fits bodies.now w.scratch)
         front.now front_ends.old front_outputs.old first.old }
-    requires back { IsPart plan.now board.now.waits (λ w. B.fits bodies.now w.scratch)
+    requires back { IsPartOfRound plan.now board.now.waits (λ w. B.fits bodies.now w.scratch)
         back.now back_ends.old back_outputs.old second.old }
     ensures results { OnOk result (AreResults plan.now (plan_meaning plan.now (B.outcome bodies.now))
         front.now front_ends.new front_outputs.new
@@ -167,7 +167,7 @@ fn both_halves<R: Threads + Sync, B: Bodies<Scratch = S>, G: Gate, S: Send + Dro
     let mut one = || -> Result<(), Memory>
         requires { IsSync R.row × IsSync B.row × IsSync G.row × IsSend S.row
             × IsShared plan.now (B.outcome bodies.now) (B.takes bodies.now) board.now
-            × IsPart plan.now board.now.waits (λ w. B.fits bodies.now w.scratch)
+            × IsPartOfRound plan.now board.now.waits (λ w. B.fits bodies.now w.scratch)
             front.now front_ends.now front_outputs.now first.now }
         ensures { OnOk result (AreResults plan.entry.now (plan_meaning plan.entry.now (B.outcome bodies.entry.now))
             front.entry.now front_ends.exit.now front_outputs.exit.now)
@@ -188,7 +188,7 @@ fn both_halves<R: Threads + Sync, B: Bodies<Scratch = S>, G: Gate, S: Send + Dro
     let mut other = || -> Result<(), Memory>
         requires { IsSync R.row × IsSync B.row × IsSync G.row × IsSend S.row
             × IsShared plan.now (B.outcome bodies.now) (B.takes bodies.now) board.now
-            × IsPart plan.now board.now.waits (λ w. B.fits bodies.now w.scratch)
+            × IsPartOfRound plan.now board.now.waits (λ w. B.fits bodies.now w.scratch)
             back.now back_ends.now back_outputs.now second.now }
         ensures { OnOk result (AreResults plan.entry.now (plan_meaning plan.entry.now (B.outcome bodies.entry.now))
             back.entry.now back_ends.exit.now back_outputs.exit.now)

@@ -36,13 +36,13 @@ closed None end draft = with_place draft end
 closed (Some next) end draft = draft
 
 -- a part, by where its `break` and `continue` go, and by where the code goes on behind it
-abbrev pub Part : Type 0
-Part = Exits → Option Label → Emission
+abbrev pub StmtPart : Type 0
+StmtPart = Exits → Option Label → Emission
 
-abbrev pub if_code : Exits → Option Label → (end : Label) → (condition : Label → Emission) → Part → Emission
+abbrev pub if_code : Exits → Option Label → (end : Label) → (condition : Label → Emission) → StmtPart → Emission
 if_code x next end condition a draft = closed next end (a x next (condition end draft))
 
-abbrev pub if_else_code : Exits → Option Label → (end otherwise : Label) → (condition : Label → Emission) → Part → Part → Emission
+abbrev pub if_else_code : Exits → Option Label → (end otherwise : Label) → (condition : Label → Emission) → StmtPart → StmtPart → Emission
 if_else_code x next end otherwise condition a b draft =
     closed next end (b x next (with_place (a x (Some end) (condition otherwise draft)) otherwise))
 
@@ -51,11 +51,11 @@ abbrev pub begin_code : (again : Label) → (test : Emission) → Emission
 begin_code again test draft = test (with_instr (with_place draft again) Turn)
 
 -- Without a step the body goes on at the beginning; else at the step, which stands behind it.
-abbrev pub step_code : (step again : Label) → Exits → (end : Label) → Part → Emission → Emission
+abbrev pub step_code : (step again : Label) → Exits → (end : Label) → StmtPart → Emission → Emission
 step_code step again x end a change draft =
     with_instr (change (with_place (a (in_loop x end step) None draft) step)) (Jump again.number)
 
-abbrev pub round_code : (ℕ → Resolved) → Option tree.ChangeTree → (again : Label) → Exits → (end : Label) → Part → Emission
+abbrev pub round_code : (ℕ → Resolved) → Option tree.ChangeTree → (again : Label) → Exits → (end : Label) → StmtPart → Emission
 round_code tells None again x end a draft = a (in_loop x end again) (Some again) draft
 round_code tells (Some c) again x end a draft = step_code (next_label draft) again x end a (change_code tells c) (with_label draft)
 
@@ -63,11 +63,11 @@ abbrev pub test_code : (ℕ → Resolved) → Option tree.ExprTree → (end : La
 test_code tells None end draft = draft
 test_code tells (Some e) end draft = condition_code tells e end draft
 
-abbrev pub loop_from : (ℕ → Resolved) → Option tree.ExprTree → Option tree.ChangeTree → (again : Label) → Exits → (end : Label) → Part
+abbrev pub loop_from : (ℕ → Resolved) → Option tree.ExprTree → Option tree.ChangeTree → (again : Label) → Exits → (end : Label) → StmtPart
     → Emission
 loop_from tells test step again x end a draft = round_code tells step again x end a (begin_code again (test_code tells test end) draft)
 
-abbrev pub loop_code : (ℕ → Resolved) → Option tree.ExprTree → Option tree.ChangeTree → Exits → (end : Label) → Part → Emission
+abbrev pub loop_code : (ℕ → Resolved) → Option tree.ExprTree → Option tree.ChangeTree → Exits → (end : Label) → StmtPart → Emission
 loop_code tells test step x end a draft = loop_from tells test step (next_label draft) x end a (with_label draft)
 
 -- Statements without statements in them. `break`, `continue` and `return` don't go on.
@@ -84,7 +84,7 @@ simple_code tells x next (tree.Tick m t arrow e) draft = jump_on next (tick_code
 simple_code tells x next _ draft = jump_on next draft
 
 abbrev mutual
-  pub stmt_code : (ℕ → Resolved) → tree.StmtTree → Part
+  pub stmt_code : (ℕ → Resolved) → tree.StmtTree → StmtPart
   stmt_code tells (tree.Block ss) x next draft = block_code tells ss x next draft
   stmt_code tells (tree.If c a) x next draft =
       if_code x next (end_of next draft) (condition_code tells c) (stmt_code tells a) (opened next draft)
@@ -99,17 +99,17 @@ abbrev mutual
   stmt_code tells s x next draft = simple_code tells x next s draft
 
   -- The last statement of a block goes on where the block does.
-  pub block_code : (ℕ → Resolved) → tree.Stmts → Part
+  pub block_code : (ℕ → Resolved) → tree.Stmts → StmtPart
   block_code tells tree.no_stmts x next draft = jump_on next draft
   block_code tells (tree.stmt a rest) x next draft = rest_code tells rest x next (stmt_code tells a) draft
 
   -- statements behind one
-  pub rest_code : (ℕ → Resolved) → tree.Stmts → Exits → Option Label → Part → Emission
+  pub rest_code : (ℕ → Resolved) → tree.Stmts → Exits → Option Label → StmtPart → Emission
   rest_code tells tree.no_stmts x next a draft = a x next draft
   rest_code tells (tree.stmt b rest) x next a draft = rest_code tells rest x next (stmt_code tells b) (a x None draft)
 
 -- statements of a block, where none or some stood before
-abbrev pub tail_code : (ℕ → Resolved) → tree.Stmts → Part
+abbrev pub tail_code : (ℕ → Resolved) → tree.Stmts → StmtPart
 tail_code tells tree.no_stmts x next draft = draft
 tail_code tells (tree.stmt a rest) x next draft = rest_code tells rest x next (stmt_code tells a) draft
 

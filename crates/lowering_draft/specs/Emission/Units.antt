@@ -2,7 +2,7 @@
 use Rattle.std.specs.Prelude.{ℕ, ◌+◌, ◌-◌, ◌==◌, ◌^◌, min, Bool, true, false, List, [], ◌∷◌, ◌++◌, map, length, get_or, Option, Some, None, slice_get, pos}
 use Rattle.lowering_draft.specs.Draft.{next_label, with_instrs, with_label, with_place, with_places}
 use Rattle.lowering_draft.specs.Emission.Expressions.{Emission}
-use Rattle.lowering_draft.specs.Emission.Statements.{Part, block_code, stmt_code}
+use Rattle.lowering_draft.specs.Emission.Statements.{StmtPart, block_code, stmt_code}
 use Rattle.lowering_draft.specs.declared.draft.Draft.{Draft}
 use Rattle.lowering_draft.specs.declared.draft.Label.{Label}
 use Rattle.lowering_draft.specs.declared.exits.Exits.{Exits}
@@ -32,10 +32,10 @@ abbrev pub exits_of : (end : Label) → (leaves : Instr) → Exits
 exits_of end leaves = record { broke = end; continued = end; leaves = leaves }
 
 -- a body, its end, and what stands behind it
-abbrev pub framed_code : (end : Label) → (leaves : Instr) → Part → (falls : List Instr) → Emission
+abbrev pub framed_code : (end : Label) → (leaves : Instr) → StmtPart → (falls : List Instr) → Emission
 framed_code end leaves body falls draft = with_instrs (with_place (body (exits_of end leaves) None draft) end) falls
 
-abbrev pub body_code : (leaves : Instr) → Part → (falls : List Instr) → Emission
+abbrev pub body_code : (leaves : Instr) → StmtPart → (falls : List Instr) → Emission
 body_code leaves body falls draft = framed_code (next_label draft) leaves body falls (with_label draft)
 
 abbrev pub function_code : (ℕ → Resolved) → tree.Stmts → Emission

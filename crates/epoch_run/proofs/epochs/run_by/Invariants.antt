@@ -1,5 +1,5 @@
 use Rattle.std.proofs.Common.{◌-◌, length}
-use Rattle.control_run.specs.Stretches.{given_by}
+use Rattle.control_run.specs.Stretches.{created_so_far}
 use Rattle.epoch_run.specs.Standing.{StandsAt}
 use Rattle.epoch_run.proofs.epochs.run_by.Given as goal
 
@@ -7,4 +7,4 @@ abbrev pub invariant-epochs : goal.invariant-epochs
 invariant-epochs g l = StandsAt l.code l.input l.budgets l.run
 
 abbrev pub decreases-epochs : goal.decreases-epochs
-decreases-epochs g l = 65536 - length (given_by l.run.control)
+decreases-epochs g l = 65536 - length (created_so_far l.run.control)

@@ -1,13 +1,13 @@
 use Rattle.std.proofs.Common.{◌-◌, ◌≤◌, length}
-use Rattle.control_run.specs.Stretches.{given_by}
+use Rattle.control_run.specs.Stretches.{created_so_far}
 use Rattle.epoch_run.specs.InOrder.{HaveRunInOrder}
 use Rattle.epoch_run.proofs.in_order.run_stretches.Given as goal
 
 abbrev pub invariant-stretches : goal.invariant-stretches
 invariant-stretches g l = record {
   ran : HaveRunInOrder l.code l.input l.budgets l.run l.order;
-  no_fewer : length (given_by l.fn.run.control) ≤ length (given_by l.run.control);
+  no_fewer : length (created_so_far l.fn.run.control) ≤ length (created_so_far l.run.control);
 }
 
 abbrev pub decreases-stretches : goal.decreases-stretches
-decreases-stretches g l = 65536 - length (given_by l.run.control)
+decreases-stretches g l = 65536 - length (created_so_far l.run.control)

@@ -1,5 +1,5 @@
 use Rattle.std.proofs.Common.{◌≡◌, ◌≤◌, ◌-◌, ℕ, List, length}
-use Rattle.control_run.specs.Stretches.{given_by}
+use Rattle.control_run.specs.Stretches.{created_so_far}
 use Rattle.os_code.specs.declared.code.Code.{Code}
 use Rattle.epoch_run.specs.InOrder.{AreLaidOut}
 use Rattle.epoch_run.specs.Sharing.{IsLaidOut}
@@ -13,4 +13,4 @@ invariant-stretches l = record {
 }
 
 abbrev pub decreases-stretches : goal.decreases-stretches
-decreases-stretches l = 65536 - length (given_by l.run.control)
+decreases-stretches l = 65536 - length (created_so_far l.run.control)

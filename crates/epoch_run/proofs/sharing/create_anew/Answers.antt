@@ -1,5 +1,5 @@
 use Rattle.std.proofs.Common.{ap, arith, length}
-use Rattle.control_run.specs.Stretches.{RunSoFar, given_by, whole}
+use Rattle.control_run.specs.Stretches.{RunSoFar, created_so_far, whole}
 use Rattle.epoch_run.proofs.SharedOut.{none_laid_out}
 use Rattle.epoch_run.proofs.sharing.create_anew.Goals as goal
 
@@ -12,7 +12,7 @@ lay_out_first-requires c = record {
     are = none_laid_out c.args.code.now c.args.input.now c.args.budgets c.in_ok-control.control c.in_ok-layout.layout c.in_ok-control.ensures c.args.code.now.valid.sites.streams_enough
         c.in_ok-layout.ensures.empty c.in_ok-layout.ensures.streams c.in_ok-layout.ensures.input;
   };
-  none = ap (λ (r : RunSoFar). length (given_by r)) c.in_ok-control.ensures;
+  none = ap (λ (r : RunSoFar). length (created_so_far r)) c.in_ok-control.ensures;
   within = let l = ap (λ (r : RunSoFar). length (whole r).activations) c.in_ok-control.ensures in let w = c.requires.within in omega (arith, l, w);
 }
 

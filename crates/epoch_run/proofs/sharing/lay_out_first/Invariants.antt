@@ -1,5 +1,5 @@
 use Rattle.std.proofs.Common.{◌≡◌, ◌+◌, ◌≤◌, ℕ, List, length}
-use Rattle.control_run.specs.Stretches.{given_by, whole}
+use Rattle.control_run.specs.Stretches.{created_so_far, whole}
 use Rattle.os_code.specs.declared.code.Code.{Code}
 use Rattle.epoch_run.specs.InOrder.{AreLaidOut}
 use Rattle.epoch_run.specs.Sharing.{IsLaidOut}
@@ -10,7 +10,7 @@ abbrev pub invariant-stretches : goal.invariant-stretches
 invariant-stretches l = record {
   laid : IsLaidOut l.run.control l.run.layout;
   keeps : (code : Code) (input : List ℕ) (budgets : Budgets) → AreLaidOut code input budgets l.fn.run.control l.fn.run.layout → AreLaidOut code input budgets l.run.control l.run.layout;
-  counted : length (given_by l.run.control) + l.left ≡ l.count;
+  counted : length (created_so_far l.run.control) + l.left ≡ l.count;
   within : l.count ≤ length (whole l.run.control).activations;
 }
 

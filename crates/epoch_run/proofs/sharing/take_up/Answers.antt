@@ -1,13 +1,13 @@
 use Rattle.std.proofs.Common.{◌∙◌, arith}
 use Rattle.stream_match_layouts.proofs.Tallies.{frame_count-is}
-use Rattle.control_run.specs.Stretches.{given_by}
+use Rattle.control_run.specs.Stretches.{created_so_far}
 use Rattle.epoch_run.proofs.SharedOut.{created_anew, none_left, taken_up}
 use Rattle.epoch_run.proofs.sharing.take_up.Goals as goal
 
 pub returns-then-len-frames-clause-goes : goal.returns-then-len-frames-clause-goes
 returns-then-len-frames-clause-goes c = λ _.
     let shared = c.requires.shared in
-    let frames = frame_count-is c.args.run.now.layout (given_by c.args.run.now.control) shared.laid_out.laid in
+    let frames = frame_count-is c.args.run.now.layout (created_so_far c.args.run.now.control) shared.laid_out.laid in
     taken_up c.args.code.now c.args.input.now c.args.budgets c.args.run.now _ c.args.order.now shared shared.laid_out shared.all c.len.ensures
     (c.new.ensures ∙ none_left c.args.code.now c.args.input.now c.args.budgets c.args.run.now c.args.order.now shared (omega (arith, c.if-len-frames.true, c.frames.ensures, c.len-2.ensures, frames)))
 

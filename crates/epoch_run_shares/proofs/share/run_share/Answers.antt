@@ -1,5 +1,5 @@
 use Rattle.std.proofs.Common.{◌≡◌, ap, length, refl, subst, ◌∙◌}
-use Rattle.control_run.specs.Stretches.{RunSoFar, given_by}
+use Rattle.control_run.specs.Stretches.{RunSoFar, created_so_far}
 use Rattle.os_code.specs.Codes.{parts_of}
 use Rattle.os_code.specs.declared.parts.Parts.{Parts}
 use Rattle.epoch_run_shares.specs.Positions.{HavePassed}
@@ -14,8 +14,8 @@ behind-requires c =
     record {
       streams =
           ap length c.as_slice.ensures
-          ∙ length-writes c.args.code.now.streams (given_by walk.control) walk.positions
-          (subst (λ (p : Parts). HavePassed p.streams (given_by walk.control) walk.positions) code_is c.in_ok-pass_to.ensures.walked.have_passed);
+          ∙ length-writes c.args.code.now.streams (created_so_far walk.control) walk.positions
+          (subst (λ (p : Parts). HavePassed p.streams (created_so_far walk.control) walk.positions) code_is c.in_ok-pass_to.ensures.walked.have_passed);
     }
 
 pub run_stretches-requires-clause-stands : goal.run_stretches-requires-clause-stands

@@ -1,6 +1,6 @@
 use Rattle.std.proofs.Common.{◌≡◌, ◌∙◌, ◌+◌, ◌*◌, ◌%◌, ◌/◌, ℕ, suc, ap, sym, refl, subst, [], ◌∷◌, ◌++◌, arith}
 use Rattle.kernels.proofs.Ranges.{map-range-more}
-use Rattle.kernels.specs.Generated.{byte, generated, state}
+use Rattle.kernels.specs.Generated.{byte, generated, generator_state}
 use Rattle.kernels.proofs.generator.generate.Goals as goal
 
 -- the machine's two steps are the recurrence's one
@@ -14,7 +14,7 @@ pub loop-preserved : goal.loop-preserved
 loop-preserved c =
     let seed = c.args.seed in
     let k = c.loop.counter in
-    let follows : (c.loop.state * 1103515245 % 4294967296 + 12345) % 4294967296 ≡ state seed (suc k) =
+    let follows : (c.loop.state * 1103515245 % 4294967296 + 12345) % 4294967296 ≡ generator_state seed (suc k) =
     next_state c.loop.state ∙ ap (λ x. (1103515245 * x + 12345) % 4294967296) c.loop.invariant.state_so_far in
     let one_more : k + 1 ≡ suc k = omega arith in
     let from_zero : k ≡ 0 + k = omega arith in
@@ -25,7 +25,7 @@ loop-preserved c =
           ∙ ap (λ m. generated seed k ++ byte seed m ∷ []) from_zero
           ∙ sym (map-range-more (byte seed) 0 k)
           ∙ ap (generated seed) (sym one_more);
-      state_so_far = follows ∙ ap (state seed) (sym one_more);
+      state_so_far = follows ∙ ap (generator_state seed) (sym one_more);
     }
 
 pub returns : goal.returns

@@ -4,7 +4,7 @@ use Rattle.os_code.specs.Codes.{parts_of}
 use Rattle.os_code.specs.Outcomes.{control}
 use Rattle.control_run.specs.Ending.{StopsAs, contents}
 use Rattle.control_run.specs.Standing.{has_ended}
-use Rattle.control_run.specs.Stretches.{RunSoFar, IsPartOfStretch, given_by, remaining}
+use Rattle.control_run.specs.Stretches.{RunSoFar, IsPartOfStretch, created_so_far, remaining}
 use Rattle.control_run.proofs.All.{part-taken}
 use Rattle.control_run.proofs.Law.{AreTaken}
 use Rattle.control_run.proofs.Parts.{part-is, joined-is, part-of-stretch, on-err}
@@ -12,22 +12,22 @@ use Rattle.control_run.proofs.stretches.ControlRun.advance.Goals as goal
 
 pub returns-in-Ended-clause-fit : goal.returns-in-Ended-clause-fit
 returns-in-Ended-clause-fit c =
-    (subst (λ (run : RunSoFar). AreTaken run.code (given_by run)) c.self.view_is
+    (subst (λ (run : RunSoFar). AreTaken run.code (created_so_far run)) c.self.view_is
     (part-taken c.self.inside.code.now c.self.inside.input_len c.self.inside.budget c.self.inside.machine.made.created c.self.invariant.low)).fit
 
 pub returns-in-Ended-clause-lawful : goal.returns-in-Ended-clause-lawful
 returns-in-Ended-clause-lawful c =
-    (subst (λ (run : RunSoFar). AreTaken run.code (given_by run)) c.self.view_is
+    (subst (λ (run : RunSoFar). AreTaken run.code (created_so_far run)) c.self.view_is
     (part-taken c.self.inside.code.now c.self.inside.input_len c.self.inside.budget c.self.inside.machine.made.created c.self.invariant.low)).lawful
 
 pub returns-in-GivenUp-clause-fit : goal.returns-in-GivenUp-clause-fit
 returns-in-GivenUp-clause-fit c =
-    (subst (λ (run : RunSoFar). AreTaken run.code (given_by run)) c.self.view_is
+    (subst (λ (run : RunSoFar). AreTaken run.code (created_so_far run)) c.self.view_is
     (part-taken c.self.inside.code.now c.self.inside.input_len c.self.inside.budget c.self.inside.machine.made.created c.self.invariant.low)).fit
 
 pub returns-in-GivenUp-clause-lawful : goal.returns-in-GivenUp-clause-lawful
 returns-in-GivenUp-clause-lawful c =
-    (subst (λ (run : RunSoFar). AreTaken run.code (given_by run)) c.self.view_is
+    (subst (λ (run : RunSoFar). AreTaken run.code (created_so_far run)) c.self.view_is
     (part-taken c.self.inside.code.now c.self.inside.input_len c.self.inside.budget c.self.inside.machine.made.created c.self.invariant.low)).lawful
 
 pub returns-in_err-stop-clause-some_of_them : goal.returns-in_err-stop-clause-some_of_them
@@ -68,4 +68,4 @@ pub returns-in-None-clause-joined : goal.returns-in-None-clause-joined
 returns-in-None-clause-joined c =
     let stops = subst (StopsAs (parts_of c.self.inside.code.now) c.self.inside.input_len c.self.inside.budget _ (contents c.go_on.new.self)) c.in-None.is c.in_ok-stop.ensures.stops in
     joined-is (control (parts_of c.self.inside.code.now) c.self.inside.input_len c.self.inside.budget).activations _ _ c.args.at_most stops.1
-    ∙ ap (λ (run : RunSoFar). given_by run ++ take c.args.at_most (remaining run)) c.self.view_is
+    ∙ ap (λ (run : RunSoFar). created_so_far run ++ take c.args.at_most (remaining run)) c.self.view_is

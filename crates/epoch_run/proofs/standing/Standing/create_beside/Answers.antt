@@ -2,7 +2,7 @@ use Rattle.std.proofs.Common.{List, ap, length, subst, sym, ◌∙◌}
 use Rattle.flow_core_laws.specs.declared.activation.Activation.{Activation}
 use Rattle.stream_match_layouts.specs.Layout.{IsLayoutOf, TakesMore}
 use Rattle.stream_match_layouts.specs.declared.layout.Layout.{Layout}
-use Rattle.control_run.specs.Stretches.{given_by}
+use Rattle.control_run.specs.Stretches.{created_so_far}
 use Rattle.epoch_run.specs.NextSpans.{ComeBehind}
 use Rattle.epoch_run.specs.Standing.{HasAdvanced}
 use Rattle.epoch_run.proofs.Going.{stands_next, takes_more}
@@ -21,7 +21,7 @@ add-requires-clause-laid g c =
 pub returns-clause-stands : goal.returns-clause-stands
 returns-clause-stands g c =
     let s = c.args.self.now in
-    let all : List Activation = given_by s.control in
+    let all : List Activation = created_so_far s.control in
     let same = c.in_ok-laid.ensures.layout in
     stands_next c.args.code.now c.args.input.now c.args.budgets s c.requires.budgets c.requires.stands c.args.size.activations c.run_beside.new.self.control
     c.new-next.result c.run_beside.new.next c.new-next.ensures c.in_ok-laid.ensures.advanced

@@ -1,6 +1,6 @@
 use Rattle.std.proofs.Common.{arith, ap, drop, List, subst, sym, take, ◌∙◌}
 use Rattle.flow_core_laws.specs.declared.activation.Activation.{Activation}
-use Rattle.control_run.specs.Stretches.{given_by}
+use Rattle.control_run.specs.Stretches.{created_so_far}
 use Rattle.os_code.specs.Codes.{parts_of}
 use Rattle.os_code.specs.Outcomes.{control}
 use Rattle.stream_match_layouts.proofs.Sums.{frames_bound}
@@ -44,7 +44,7 @@ give_up_ended-requires g c =
 pub returns-clause-run : goal.returns-clause-run
 returns-clause-run g c =
     let s = c.args.self.now in
-    c.give_up_ended.ensures.run c.args.code.now c.args.input.now c.args.budgets (given_by s.control)
+    c.give_up_ended.ensures.run c.args.code.now c.args.input.now c.args.budgets (created_so_far s.control)
     (has_run c.args.code.now c.args.input.now c.args.budgets s c.requires.budgets c.requires.stands c.later_activations_change_nothing.ensures c.run_and_advance.new.control c.run_and_advance.new.held
     (subst (λ (xs : List Activation). IsHeldOf (parts_of c.args.code.now) xs c.args.input.now c.args.budgets.task c.run_and_advance.new.held)
     (first_created c.args.code.now c.args.input.now c.args.budgets s c.requires.budgets c.requires.stands c.frames.result s.layout.input_len c.frames.ensures c.requires.stands.over)

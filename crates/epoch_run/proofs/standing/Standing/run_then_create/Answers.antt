@@ -1,5 +1,5 @@
 use Rattle.std.proofs.Common.{◌≡◌, [], arith, ap, length, List, refl, subst, sym, ◌∙◌}
-use Rattle.control_run.specs.Stretches.{RunSoFar, given_by}
+use Rattle.control_run.specs.Stretches.{RunSoFar, created_so_far}
 use Rattle.flow_core_laws.specs.declared.activation.Activation.{Activation}
 use Rattle.stream_match_layouts.specs.Layout.{IsLayoutOf, TakesMore}
 use Rattle.stream_match_layouts.specs.declared.layout.Layout.{Layout}
@@ -28,7 +28,7 @@ create_behind-requires-clause-takes g c after next = λ advanced.
 pub returns-clause-stands : goal.returns-clause-stands
 returns-clause-stands g c =
     let s = c.args.self.now in
-    let all : List Activation = given_by s.control in
+    let all : List Activation = created_so_far s.control in
     let m = c.in_ok-create_behind.ensures.next in
     let control : c.give_up_ended.new.self.control ≡ s.control =
     ap (λ (r : Standing). r.control) c.give_up_ended.ensures.same ∙ ap (λ (r : Standing). r.control) c.in_ok-run.ensures.same in
