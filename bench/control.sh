@@ -7,11 +7,11 @@ top=$(cd "$(dirname "${BASH_SOURCE[0]}")/.." && pwd)
 work=$(mktemp -d)
 trap 'rm -rf "$work"' EXIT
 mkdir "$work/crates"
-for crate in os_io flow_core_laws c_int os_code task_vm stream_match_layouts control_run; do
+for crate in os_io flow_core_laws c_int os_code os_object_validity task_vm stream_match_layouts control_run; do
     cp -r "$top/crates/$crate" "$work/crates"
     grep -E "^$crate:" "$top/crates.txt" >>"$work/crates.txt"
 done
-echo 'control: control_run task_vm os_code flow_core_laws c_int os_io' >>"$work/crates.txt"
+echo 'control: control_run task_vm os_object_validity os_code flow_core_laws c_int os_io' >>"$work/crates.txt"
 
 control=$work/crates/control
 tests=$top/crates/machine_tests

@@ -1,7 +1,7 @@
 -- Codes that are written out, and activations that fit them.
-use Rattle.std.proofs.Common.{◌≡◌, ℕ, zero, suc, ◌+◌, ◌<◌, get_or, Bool, true, false, List, [], ◌∷◌, ◌++◌, length, Some, None, Option, ℤ, refl, sym, ap, subst, ◌∙◌, arith}
+use Rattle.std.proofs.Common.{◌≡◌, ℕ, Bool, true, false, List, [], ◌∷◌, length, Some, None, Option, ℤ, refl, sym, ap, subst, ◌∙◌, arith}
 use Rattle.std.specs.Prelude.{◌==◌, ◌&&◌, nat_le, nat_lt}
-use Rattle.std.specs.List.{AllZip, list_all}
+use Rattle.std.specs.List.{AllZip}
 use Rattle.std.proofs.lemmas.Bool.{and_parts, eqb-true, ltb-true, leb-true}
 use Rattle.flow_core_laws.specs.declared.activation.Activation.{Activation}
 use Rattle.flow_core_laws.specs.declared.claim.Claim.{Claim}
@@ -13,12 +13,6 @@ use Rattle.os_code.specs.declared.unit.Unit.{Unit as CodeUnit}
 use Rattle.os_code.specs.Parts.{site_at}
 use Rattle.os_code.specs.Tasks.{ClaimFits, Fits}
 use Rattle.machine_tests.specs.Written.{written, same_bool, single_fits, claim_fits, claims_fit, is_run}
-
--- what holds of each element holds of one
-pub of_each : {A : Type 0} (test : A → Bool) (xs : List A) (k : ℕ) (d : A) → k < length xs → list_all test xs ≡ true → test (get_or xs k d) ≡ true
-of_each test [] k d inside all = absurd (omega arith)
-of_each test (x ∷ xs) zero d inside all = (and_parts (test x) (list_all test xs) all).0
-of_each test (x ∷ xs) (suc k) d inside all = of_each test xs k d (omega arith) (and_parts (test x) (list_all test xs) all).1
 
 same-bool : (a b : Bool) → same_bool a b ≡ true → b ≡ a
 same-bool true true e = refl
@@ -75,13 +69,3 @@ fits-written instrs units task captured items values claims inputs outputs e cod
     the-one one found =
         let here : Some (record { unit = task; line = 90; captured = captured; items = items }) ≡ Some one = ap (λ (n : ℕ). site_at (written instrs units task captured items) n) (sym site) ∙ found in
         cc
-
--- the one site
-abbrev site-of : ℕ → List ℕ → List SiteItem → Site
-site-of task captured items = record { unit = task; line = 90; captured = captured; items = items }
-
-pub sites-are : (old new : List Site) (task : ℕ) (a captured : List ℕ) (b items : List SiteItem) → new ≡ old ++ record { unit = task; line = 90; captured = a; items = b } ∷ [] → old ≡ [] → a ≡ captured → b ≡ items
-    → new ≡ record { unit = task; line = 90; captured = captured; items = items } ∷ []
-sites-are old new task a captured b items pushed none one other =
-    pushed ∙ ap (λ (sites : List Site). sites ++ record { unit = task; line = 90; captured = a; items = b } ∷ []) none
-    ∙ ap (λ (xs : List ℕ). site-of task xs b ∷ []) one ∙ ap (λ (xs : List SiteItem). site-of task captured xs ∷ []) other

@@ -1,10 +1,8 @@
 -- Codes that tests write out: a task, the functions that it calls, and `main`, which is the last unit.
-use Rattle.std.specs.Prelude.{ℕ, ◌+◌, ◌-◌, min, Bool, true, false, not, ◌==◌, ◌&&◌, nat_le, nat_lt}
-use Rattle.std.specs.Prelude.{List, [], ◌∷◌, ◌++◌, length, filter, sum_by, Option, Some, None, ℤ, pos}
-use Rattle.c_int.specs.declared.operators.Binary.TheVariants as binary
+use Rattle.std.specs.Prelude.{ℕ, ◌-◌, Bool, true, false, not, ◌==◌, ◌&&◌, nat_le, nat_lt}
+use Rattle.std.specs.Prelude.{List, [], ◌∷◌, length, filter, sum_by, Option, Some, None, ℤ}
 use Rattle.flow_core_laws.specs.declared.claim.Claim.{Claim}
 use Rattle.os_code.specs.declared.instr.Instr.{Instr}
-use Rattle.os_code.specs.declared.instr.Instr.TheVariants.{Push, Copy, Load, Store, Binary, Return, End}
 use Rattle.os_code.specs.declared.site.SiteItem.{SiteItem}
 use Rattle.os_code.specs.declared.unit.Unit.{Unit as CodeUnit}
 use Rattle.os_code.specs.declared.parts.Parts.{Parts}
@@ -14,25 +12,6 @@ use Rattle.os_code.specs.Parts.{made_of}
 abbrev pub written : List Instr → List CodeUnit → (task : ℕ) → (captured : List ℕ) → List SiteItem → Parts
 written instrs units task captured items =
     made_of instrs units (record { unit = task; line = 90; captured = captured; items = items } ∷ []) (length units - 1) 3
-
--- a body, behind which stand the function that it calls and a `main` that ends at once
-abbrev pub behind : List Instr
-behind =
-    Push (pos 9) ∷ Load 0 ∷ Load 1 ∷ Binary binary.Add 33 ∷ Push (pos 1) ∷ Binary binary.Add 33 ∷ Copy ∷ Store 1 ∷ Return ∷ End ∷ []
-
-abbrev pub units_around : (body : ℕ) → List CodeUnit
-units_around body =
-    record { start = body; args = 1; slots = 2; stack = 3 } ∷ record { start = 0; args = 2; slots = 6; stack = min body 3 }
-    ∷ record { start = body + 9; args = 1; slots = 9; stack = 0 } ∷ []
-
--- its windows: three inputs, two outputs, and an output that goes to `osout`
-abbrev pub three_items : List SiteItem
-three_items =
-    record { write = false; stream = 0; window = Some 1 } ∷ record { write = true; stream = 2; window = Some 2 }
-    ∷ record { write = true; stream = 1; window = None } ∷ []
-
-abbrev pub alone : List Instr → Parts
-alone body = written (body ++ behind) (units_around (length body)) 1 (0 ∷ 1 ∷ []) three_items
 
 abbrev pub same_bool : Bool → Bool → Bool
 same_bool true b = b

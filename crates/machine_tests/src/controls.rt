@@ -7,6 +7,7 @@ use flow_core_laws::{Claim, Control, ControlEnd};
 use os_code::{Binary, Code, Instr, SiteItem, Unit};
 use os_io::Memory;
 use std::alloc::Global;
+use std::process::Abort;
 use std::test::Fail;
 
 fn trapped(code: u8, line: u32) -> ControlEnd {
@@ -47,8 +48,14 @@ fn is_made(control: &Control, number: usize, captured: &[i32], claims: [Claim; 2
 
 /// One `Spawn` of an input item on the stream of number 1 or behind it, and of an output item there with a window.
 /// Captured are the slots 2 and 0.
-fn spawning(alloc: Global, window: i32, operands: [i32; 4]) -> Result<Control, Memory> {
+fn spawning(
+    rt: &impl Abort,
+    alloc: Global,
+    window: i32,
+    operands: [i32; 4],
+) -> Result<Control, Memory> {
     run_written(
+        rt,
         alloc,
         &[
             Instr::End,
@@ -96,8 +103,15 @@ fn spawning(alloc: Global, window: i32, operands: [i32; 4]) -> Result<Control, M
 }
 
 /// Ticks of 3 and of an amount, a `Spawn` of two windows on the input, and the same again with one tick.
-fn ticking(alloc: Global, stream: i32, amount: i32, budget: u32) -> Result<Control, Memory> {
+fn ticking(
+    rt: &impl Abort,
+    alloc: Global,
+    stream: i32,
+    amount: i32,
+    budget: u32,
+) -> Result<Control, Memory> {
     run_written(
+        rt,
         alloc,
         &[
             Instr::End,
@@ -159,8 +173,15 @@ fn ticking(alloc: Global, stream: i32, amount: i32, budget: u32) -> Result<Contr
 
 /// A loop that creates so many activations: each reads one position of the input with its number and `more` as burst,
 /// and writes a window.
-pub(crate) fn loop_code(alloc: Global, times: i32, window: i32, more: i32) -> Result<Code, Memory> {
+pub(crate) fn loop_code(
+    rt: &impl Abort,
+    alloc: Global,
+    times: i32,
+    window: i32,
+    more: i32,
+) -> Result<Code, Memory> {
     code_of(
+        rt,
         alloc,
         &[
             Instr::End,
@@ -226,75 +247,140 @@ pub(crate) fn loop_code(alloc: Global, times: i32, window: i32, more: i32) -> Re
 }
 
 fn looping(
+    rt: &impl Abort,
     alloc: Global,
     times: i32,
     window: i32,
     more: i32,
     budget: u32,
 ) -> Result<Control, Memory> {
-    let code = loop_code(alloc, times, window, more)?;
+    let code = loop_code(rt, alloc, times, window, more)?;
     run_control(alloc, &code, 0, u64::from(budget.min(1000000000)))
 }
 
-#[test]
-fn spawns_look_at_stream_horizon_and_burst_item_by_item(rt: HostRuntime) -> Result<(), Fail> {
-    let made = spawning(rt.alloc(), 2, [1, 0, 0, 2])?;
-    assert!(rt; made.end == ControlEnd::Done);
-    assert!(rt; made.activations.len() == 1);
-    assert!(rt; is_made(&made, 0, &[8, 5], [reads(2, 1, 0, 0), writes(1, 2)]));
-    for (window, operands, code) in [
-        // past the streams, at the output, at the input, and after them the first trap that comes
-        (2, [2, 0, 0, 2], 4),
-        (2, [0, 0, 0, 2], 4),
-        (2, [1, 0, -1, 2], 4),
-        (0, [1, 65537, -1, 3], 7),
-        (0, [1, 0, 0, 3], 6),
-        (65537, [1, 65536, 1, 65537], 6),
-        (2, [1, 65536, 1, 3], 8),
-        (0, [1, 0, -1, 0], 4),
-    ] {
-        let made = spawning(rt.alloc(), window, operands)?;
-        assert!(rt; made.end == trapped(code, 90));
+/// A window, the operands of a `Spawn`, and the code of the trap.
+static SPAWNS: [(i32, [i32; 4], u8); 8] = [
+    // past the streams, at the output, at the input, and after them the first trap that comes
+    (2, [2, 0, 0, 2], 4),
+    (2, [0, 0, 0, 2], 4),
+    (2, [1, 0, -1, 2], 4),
+    (0, [1, 65537, -1, 3], 7),
+    (0, [1, 0, 0, 3], 6),
+    (65537, [1, 65536, 1, 65537], 6),
+    (2, [1, 65536, 1, 3], 8),
+    (0, [1, 0, -1, 0], 4),
+];
+
+/// Whether each `Spawn` traps with its code, and creates nothing.
+fn spawns_trap(
+    rt: &(impl AllocGlobal + Abort),
+    rows: &[(i32, [i32; 4], u8)],
+) -> Result<(), Memory> {
+    for (window, operands, code) in rows {
+        let made = spawning(rt, rt.alloc(), *window, *operands)?;
+        assert!(rt; made.end == trapped(*code, 90));
         assert!(rt; made.activations.len() == 0);
     }
     Ok(())
 }
 
+/// Whether a lawful `Spawn` creates its activation.
+fn spawns(rt: &(impl AllocGlobal + Abort)) -> Result<(), Memory> {
+    let made = spawning(rt, rt.alloc(), 2, [1, 0, 0, 2])?;
+    assert!(rt; made.end == ControlEnd::Done);
+    assert!(rt; made.activations.len() == 1);
+    assert!(rt; is_made(&made, 0, &[8, 5], [reads(2, 1, 0, 0), writes(1, 2)]));
+    Ok(())
+}
+
 #[test]
-fn ticks_move_the_next_read_claim(rt: HostRuntime) -> Result<(), Fail> {
-    let made = ticking(rt.alloc(), 0, 3, 3)?;
+fn spawns_look_at_stream_horizon_and_burst_item_by_item(rt: HostRuntime) -> Result<(), Fail> {
+    spawns(&rt)?;
+    spawns_trap(&rt, &SPAWNS)?;
+    Ok(())
+}
+
+/// The stream and the amount of a tick, and the code of the trap.
+static TICKS: [(i32, i32, u8); 5] = [(1, -1, 4), (3, 3, 4), (-1, 3, 4), (0, -1, 7), (0, 65537, 7)];
+
+/// Whether each tick traps with its code, and nothing is created.
+fn ticks_trap(rt: &(impl AllocGlobal + Abort), rows: &[(i32, i32, u8)]) -> Result<(), Memory> {
+    for (stream, amount, code) in rows {
+        let made = ticking(rt, rt.alloc(), *stream, *amount, 3)?;
+        assert!(rt; made.end == trapped(*code, 0));
+        assert!(rt; made.activations.len() == 0);
+    }
+    Ok(())
+}
+
+/// Whether ticks on the input move both activations.
+fn ticks_move_input(rt: &(impl AllocGlobal + Abort)) -> Result<(), Memory> {
+    let made = ticking(rt, rt.alloc(), 0, 3, 3)?;
     assert!(rt; made.end == ControlEnd::Done);
     assert!(rt; is_made(&made, 0, &[], [reads(0, 1, 1, 7), reads(0, 1, 2, 0)]));
     assert!(rt; is_made(&made, 1, &[], [reads(0, 1, 1, 5), reads(0, 1, 2, 0)]));
-    let made = ticking(rt.alloc(), 2, 65536, 2)?;
+    Ok(())
+}
+
+/// Whether a tick on another stream moves neither, and the third one is over the budget.
+fn ticks_run_out(rt: &(impl AllocGlobal + Abort)) -> Result<(), Memory> {
+    let made = ticking(rt, rt.alloc(), 2, 65536, 2)?;
     assert!(rt; made.end == ControlEnd::OverBudget);
     assert!(rt; made.activations.len() == 1);
     assert!(rt; is_made(&made, 0, &[], [reads(0, 1, 1, 4), reads(0, 1, 2, 0)]));
-    for (stream, amount, code) in [(1, -1, 4), (3, 3, 4), (-1, 3, 4), (0, -1, 7), (0, 65537, 7)] {
-        let made = ticking(rt.alloc(), stream, amount, 3)?;
-        assert!(rt; made.end == trapped(code, 0));
-        assert!(rt; made.activations.len() == 0);
+    Ok(())
+}
+
+#[test]
+fn ticks_move_the_next_read_claim(rt: HostRuntime) -> Result<(), Fail> {
+    ticks_move_input(&rt)?;
+    ticks_run_out(&rt)?;
+    ticks_trap(&rt, &TICKS)?;
+    Ok(())
+}
+
+/// How many rounds a loop makes, its window, what is added to its bursts, and the budget; how many activations come of it, and the end.
+type Limited = (i32, i32, i32, u32, usize, ControlEnd);
+
+static LIMITS: [Limited; 9] = [
+    (1, 1, 0, 0, 0, ControlEnd::OverBudget),
+    (3, 0, 0, 9, 0, ControlEnd::Trapped { code: 6, line: 3 }),
+    // 65,536 activations of 64 positions are exactly as many as there may be of both
+    (65536, 63, 0, 1000000, 65536, ControlEnd::Done),
+    (65537, 63, 0, 1000000, 65536, ControlEnd::Limit(1)),
+    (
+        65537,
+        63,
+        1,
+        1000000,
+        65536,
+        ControlEnd::Trapped { code: 7, line: 90 },
+    ),
+    (64, 65535, 0, 1000000, 64, ControlEnd::Done),
+    (65, 65535, 0, 1000000, 64, ControlEnd::Limit(2)),
+    (
+        65,
+        65535,
+        65473,
+        1000000,
+        64,
+        ControlEnd::Trapped { code: 7, line: 90 },
+    ),
+    (65536, 64, 0, 65537, 64527, ControlEnd::Limit(2)),
+];
+
+/// Whether each loop ends so.
+fn loops_end(rt: &(impl AllocGlobal + Abort), rows: &[Limited]) -> Result<(), Memory> {
+    for (times, window, more, budget, count, end) in rows {
+        let made = looping(rt, rt.alloc(), *times, *window, *more, *budget)?;
+        assert!(rt; made.end == *end);
+        assert!(rt; made.activations.len() == *count);
     }
     Ok(())
 }
 
 #[test]
 fn limits_come_after_all_items(rt: HostRuntime) -> Result<(), Fail> {
-    for (times, window, more, budget, count, end) in [
-        (1, 1, 0, 0, 0, ControlEnd::OverBudget),
-        (3, 0, 0, 9, 0, trapped(6, 3)),
-        // 65,536 activations of 64 positions are exactly as many as there may be of both
-        (65536, 63, 0, 1000000, 65536, ControlEnd::Done),
-        (65537, 63, 0, 1000000, 65536, ControlEnd::Limit(1)),
-        (65537, 63, 1, 1000000, 65536, trapped(7, 90)),
-        (64, 65535, 0, 1000000, 64, ControlEnd::Done),
-        (65, 65535, 0, 1000000, 64, ControlEnd::Limit(2)),
-        (65, 65535, 65473, 1000000, 64, trapped(7, 90)),
-        (65536, 64, 0, 65537, 64527, ControlEnd::Limit(2)),
-    ] {
-        let made = looping(rt.alloc(), times, window, more, budget)?;
-        assert!(rt; made.end == end);
-        assert!(rt; made.activations.len() == count);
-    }
+    loops_end(&rt, &LIMITS)?;
     Ok(())
 }

@@ -8,6 +8,7 @@ use flow_core_laws::{Control, ControlEnd};
 use os_code::Code;
 use os_io::{List, Memory};
 use std::alloc::Global;
+use std::process::Abort;
 use std::test::Fail;
 
 /// How many rounds the loop makes, its window, what is added to its bursts, and the budget; how many activations come
@@ -16,7 +17,7 @@ type Case = (i32, i32, i32, u32, usize, ControlEnd, u64, u64);
 
 // Two steps come before the loop. A round takes a turn, 12 steps with the `Spawn`, and 5 behind it; the last test takes 5 and
 // the end one. A `Turn` without a unit and a `Spawn` that ends the run are steps too.
-const CASES: [Case; 8] = [
+static CASES: [Case; 8] = [
     (0, 1, 0, 100, 0, ControlEnd::Done, 8, 1),
     (6, 1, 0, 100, 6, ControlEnd::Done, 110, 7),
     (7, 1, 0, 100, 7, ControlEnd::Done, 127, 8),
@@ -46,7 +47,7 @@ const CASES: [Case; 8] = [
     ),
 ];
 
-const STRETCHES: [u32; 4] = [1, 2, 3, 4096];
+static STRETCHES: [u32; 4] = [1, 2, 3, 4096];
 
 /// What a run gives by stretches of at most so many activations, once it has told its end, and how many steps and turns it took.
 fn in_stretches(
@@ -92,12 +93,12 @@ fn is_same(one: &Control, other: &Control) -> bool {
 }
 
 /// Whether a run of a loop gives the same by stretches as at once, and what the case says.
-fn gives_the_same(alloc: Global, case: &Case, at_most: u32) -> Result<bool, Memory>
+fn gives_the_same(rt: &impl Abort, alloc: Global, case: &Case, at_most: u32) -> Result<bool, Memory>
     requires { 1 ≤ at_most }
 {
     let (times, window, more, budget, count, end, steps, turns) = *case;
     let budget = u64::from(budget.min(1000000000));
-    let code = loop_code(alloc, times, window, more)?;
+    let code = loop_code(rt, alloc, times, window, more)?;
     let whole = run_control(alloc, &code, 0, budget)?;
     match in_stretches(alloc, &code, budget, at_most)? {
         Some((parts, made, taken)) => Ok(
@@ -115,7 +116,7 @@ fn gives_the_same(alloc: Global, case: &Case, at_most: u32) -> Result<bool, Memo
 fn stretches_give_what_a_whole_run_gives(rt: HostRuntime) -> Result<(), Fail> {
     for case in &CASES {
         for at_most in &STRETCHES {
-            assert!(rt; gives_the_same(rt.alloc(), case, (*at_most).max(1))?);
+            assert!(rt; gives_the_same(&rt, rt.alloc(), case, (*at_most).max(1))?);
         }
     }
     Ok(())
@@ -126,7 +127,7 @@ fn a_run_tells_its_end_with_the_first_stretch_that_falls_short(
     rt: HostRuntime,
 ) -> Result<(), Fail> {
     let alloc = rt.alloc();
-    let code = loop_code(alloc, 65537, 63, 0)?;
+    let code = loop_code(&rt, alloc, 65537, 63, 0)?;
     let mut run = ControlRun::new(alloc, &code, 0, 1000000)?;
     let mut activations = List::new(alloc);
     for (at_most, told, count) in [

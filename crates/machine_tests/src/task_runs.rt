@@ -1,14 +1,14 @@
 //! Tasks written out, which run twice with one scratch.
 
 ghost use Rattle.std.specs.Prelude.{◌≡◌, ◌≤◌, length, true, IfOk};
-ghost use Rattle.os_code.specs.Checking.{is_valid};
-ghost use Rattle.machine_tests.specs.Written.{is_run, written};
+ghost use Rattle.machine_tests.specs.Written.{is_run};
 
 use crate::written::{code_of, list_of};
 use flow_core_laws::{Activation, Claim, TaskEnd};
 use os_code::{Instr, SiteItem, Unit};
 use os_io::Memory;
 use std::alloc::Global;
+use std::process::Abort;
 use task_vm::{Scratch, run_task};
 
 /// A run's end, how many steps it made, and how many turns of its budget it took.
@@ -34,6 +34,7 @@ fn activation_of(alloc: Global, values: &[i32], claims: &[Claim]) -> Result<Acti
 
 /// Runs a task twice with one scratch: with some captured values and a budget, and then with others.
 pub(crate) fn run_twice(
+    rt: &impl Abort,
     alloc: Global,
     instrs: &[Instr],
     units: &[Unit],
@@ -48,13 +49,12 @@ pub(crate) fn run_twice(
 ) -> Result<(Ran, Ran), Memory>
     requires some { 1 ≤ length units.now }
     requires few { length units.now ≤ 1000 }
-    requires valid { is_valid (written instrs.now units.now task captured.now items.now) ≡ true }
     requires first { is_run captured.now items.now first.0.now claims.now (length inputs.now) (length outputs.old) ≡ true }
     requires second { is_run captured.now items.now second.0.now claims.now (length inputs.now) (length outputs.old) ≡ true }
     requires budget { first.1 ≤ 1000000000 }
     requires other_budget { second.1 ≤ 1000000000 }
 {
-    let code = code_of(alloc, instrs, units, task, captured, items)?;
+    let code = code_of(rt, alloc, instrs, units, task, captured, items)?;
     let mut scratch = Scratch::new(alloc, &code)?;
     let activation = activation_of(alloc, first.0, claims)?;
     let end = run_task(&code, &activation, inputs, outputs, &mut scratch, first.1);

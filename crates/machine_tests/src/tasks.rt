@@ -1,10 +1,5 @@
 //! Tasks that were worked out by hand: the ends, the steps and what is written.
 
-ghost use Rattle.std.specs.Prelude.{◌≡◌, true};
-ghost use Rattle.std.specs.List.{list_all};
-ghost use Rattle.os_code.specs.Checking.{is_valid};
-ghost use Rattle.machine_tests.specs.Written.{alone};
-
 mod alone;
 mod drawn;
 mod forms;
@@ -53,9 +48,7 @@ fn taking(turns: u64, ran: Ran) -> Ran {
 }
 
 /// Whether a body comes to what each of its runs says, where the last of them was made before with the same scratch.
-fn comes_to(rt: &(impl AllocGlobal + Abort), body: &[Instr], runs: &[Run]) -> Result<(), Fail>
-    requires { is_valid (alone body.now) ≡ true }
-{
+fn comes_to(rt: &(impl AllocGlobal + Abort), body: &[Instr], runs: &[Run]) -> Result<(), Fail> {
     assert!(rt; body.len() <= 1000);
     let Some(last) = runs.last() else {
         return Err(Fail::from("a body without runs"));
@@ -64,6 +57,7 @@ fn comes_to(rt: &(impl AllocGlobal + Abort), body: &[Instr], runs: &[Run]) -> Re
     for run in runs {
         let (values, budget, end, steps, outputs) = *run;
         let (before, ran, written) = run_alone(
+            rt,
             rt.alloc(),
             body,
             (last_values, last_budget.min(1000)),
@@ -78,9 +72,7 @@ fn comes_to(rt: &(impl AllocGlobal + Abort), body: &[Instr], runs: &[Run]) -> Re
 }
 
 /// Whether each body comes to what its runs say.
-fn all_come_to(rt: &(impl AllocGlobal + Abort), cases: &[Case<'_>]) -> Result<(), Fail>
-    requires { list_all (λ case. is_valid (alone case.0.now)) cases.now ≡ true }
-{
+fn all_come_to(rt: &(impl AllocGlobal + Abort), cases: &[Case<'_>]) -> Result<(), Fail> {
     for case in cases {
         comes_to(rt, case.0, case.1)?;
     }
@@ -88,7 +80,12 @@ fn all_come_to(rt: &(impl AllocGlobal + Abort), cases: &[Case<'_>]) -> Result<()
 }
 
 /// How an operator on two captured values ends, and what it gives.
-fn binary(alloc: Global, op: Binary, values: [i32; 2]) -> Result<(Ran, i32), Memory> {
+fn binary(
+    rt: &impl Abort,
+    alloc: Global,
+    op: Binary,
+    values: [i32; 2],
+) -> Result<(Ran, i32), Memory> {
     let body = [
         Instr::Push(0),
         Instr::Load(0),
@@ -97,12 +94,12 @@ fn binary(alloc: Global, op: Binary, values: [i32; 2]) -> Result<(Ran, i32), Mem
         SET,
         Instr::End,
     ];
-    let (_, ran, outputs) = run_alone(alloc, &body, ([1, 0], 0), (values, 0))?;
+    let (_, ran, outputs) = run_alone(rt, alloc, &body, ([1, 0], 0), (values, 0))?;
     Ok((ran, outputs[0]))
 }
 
 /// How an operator on a captured value ends, and what it gives.
-fn unary(alloc: Global, op: Unary, value: i32) -> Result<(Ran, i32), Memory> {
+fn unary(rt: &impl Abort, alloc: Global, op: Unary, value: i32) -> Result<(Ran, i32), Memory> {
     let body = [
         Instr::Push(0),
         Instr::Load(0),
@@ -110,12 +107,13 @@ fn unary(alloc: Global, op: Unary, value: i32) -> Result<(Ran, i32), Memory> {
         SET,
         Instr::End,
     ];
-    let (_, ran, outputs) = run_alone(alloc, &body, ([1, 0], 0), ([value, 0], 0))?;
+    let (_, ran, outputs) = run_alone(rt, alloc, &body, ([1, 0], 0), ([value, 0], 0))?;
     Ok((ran, outputs[0]))
 }
 
 /// Divides 1 by a captured value, three calls deep.
 fn deep(
+    rt: &impl Abort,
     alloc: Global,
     first: (i32, u64),
     second: (i32, u64),
@@ -190,6 +188,7 @@ fn deep(
     }];
     let mut outputs = [0; 1];
     let (one, other) = run_twice(
+        rt,
         alloc,
         &instrs,
         &units,
@@ -206,7 +205,12 @@ fn deep(
 }
 
 /// Writes into the fourth and into the eighth of eight windows, whose sizes are 1 to 8.
-fn eight(alloc: Global, first: i32, second: i32) -> Result<(Ran, Ran, [i32; 36]), Memory> {
+fn eight(
+    rt: &impl Abort,
+    alloc: Global,
+    first: i32,
+    second: i32,
+) -> Result<(Ran, Ran, [i32; 36]), Memory> {
     let instrs = [
         Instr::Load(0),
         Instr::Push(9),
@@ -335,6 +339,7 @@ fn eight(alloc: Global, first: i32, second: i32) -> Result<(Ran, Ran, [i32; 36])
     ];
     let mut outputs = [0; 36];
     let (one, other) = run_twice(
+        rt,
         alloc,
         &instrs,
         &units,
@@ -376,72 +381,99 @@ fn bodies_that_were_drawn_end_as_step_by_step(rt: HostRuntime) -> Result<(), Fai
     all_come_to(&rt, &DRAWN)
 }
 
-#[test]
-fn operators_give_numbers(rt: HostRuntime) -> Result<(), Fail> {
-    for (op, left, right, number) in [
-        (Binary::BitOr, -8, 3, -5),
-        (Binary::BitXor, -1, 5, -6),
-        (Binary::BitAnd, -8, 255, 248),
-        (Binary::Equal, 3, 3, 1),
-        (Binary::Equal, 3, 4, 0),
-        (Binary::Unequal, 3, 3, 0),
-        (Binary::Unequal, 3, 4, 1),
-        (Binary::Less, -1, 0, 1),
-        (Binary::Less, 10, 3, 0),
-        (Binary::LessEqual, 3, 3, 1),
-        (Binary::LessEqual, 4, 3, 0),
-        (Binary::Greater, 10, 3, 1),
-        (Binary::Greater, 3, 3, 0),
-        (Binary::GreaterEqual, 3, 3, 1),
-        (Binary::GreaterEqual, 2, 3, 0),
-        (Binary::ShiftLeft, 1, 30, 1073741824),
-        (Binary::ShiftLeft, 0, 31, 0),
-        (Binary::ShiftRight, -7, 1, -4),
-        (Binary::Add, 3, 4, 7),
-        (Binary::Subtract, 10, 3, 7),
-        (Binary::Multiply, -65536, 32768, LEAST),
-        (Binary::Divide, -7, 2, -3),
-        (Binary::Divide, 7, -2, -3),
-        (Binary::Remainder, -7, 2, -1),
-        (Binary::Remainder, 7, -2, 1),
-    ] {
-        assert!(rt; binary(rt.alloc(), op, [left, right])? == (done(6), number));
+/// An operator, its operands, and what it gives.
+static NUMBERS: [(Binary, i32, i32, i32); 25] = [
+    (Binary::BitOr, -8, 3, -5),
+    (Binary::BitXor, -1, 5, -6),
+    (Binary::BitAnd, -8, 255, 248),
+    (Binary::Equal, 3, 3, 1),
+    (Binary::Equal, 3, 4, 0),
+    (Binary::Unequal, 3, 3, 0),
+    (Binary::Unequal, 3, 4, 1),
+    (Binary::Less, -1, 0, 1),
+    (Binary::Less, 10, 3, 0),
+    (Binary::LessEqual, 3, 3, 1),
+    (Binary::LessEqual, 4, 3, 0),
+    (Binary::Greater, 10, 3, 1),
+    (Binary::Greater, 3, 3, 0),
+    (Binary::GreaterEqual, 3, 3, 1),
+    (Binary::GreaterEqual, 2, 3, 0),
+    (Binary::ShiftLeft, 1, 30, 1073741824),
+    (Binary::ShiftLeft, 0, 31, 0),
+    (Binary::ShiftRight, -7, 1, -4),
+    (Binary::Add, 3, 4, 7),
+    (Binary::Subtract, 10, 3, 7),
+    (Binary::Multiply, -65536, 32768, LEAST),
+    (Binary::Divide, -7, 2, -3),
+    (Binary::Divide, 7, -2, -3),
+    (Binary::Remainder, -7, 2, -1),
+    (Binary::Remainder, 7, -2, 1),
+];
+
+static UNARY_NUMBERS: [(Unary, i32, i32); 6] = [
+    (Unary::Minus, 5, -5),
+    (Unary::Plus, LEAST, LEAST),
+    (Unary::Not, 0, 1),
+    (Unary::Not, LEAST, 0),
+    (Unary::Invert, 5, -6),
+    (Unary::Invert, LEAST, MOST),
+];
+
+/// An operator, its operands, and the code of its trap.
+static TRAPS: [(Binary, i32, i32, u8); 14] = [
+    (Binary::ShiftLeft, -1, 0, 3),
+    (Binary::ShiftLeft, 1, 31, 3),
+    (Binary::ShiftLeft, 1, 32, 3),
+    (Binary::ShiftLeft, 1, -1, 3),
+    (Binary::ShiftRight, 1, 32, 3),
+    (Binary::ShiftRight, 5, -1, 3),
+    (Binary::Add, MOST, 1, 1),
+    (Binary::Add, LEAST, -1, 1),
+    (Binary::Subtract, LEAST, 1, 1),
+    (Binary::Multiply, 65536, 32768, 1),
+    (Binary::Divide, LEAST, -1, 1),
+    (Binary::Divide, LEAST, 0, 2),
+    (Binary::Remainder, LEAST, -1, 1),
+    (Binary::Remainder, 7, 0, 2),
+];
+
+/// Whether each operator gives its number.
+fn give(rt: &(impl AllocGlobal + Abort), rows: &[(Binary, i32, i32, i32)]) -> Result<(), Fail> {
+    for (op, left, right, number) in rows {
+        let (ran, found) = binary(rt, rt.alloc(), *op, [*left, *right])?;
+        assert!(rt; ran == done(6) && found == *number);
     }
-    for (op, value, number) in [
-        (Unary::Minus, 5, -5),
-        (Unary::Plus, LEAST, LEAST),
-        (Unary::Not, 0, 1),
-        (Unary::Not, LEAST, 0),
-        (Unary::Invert, 5, -6),
-        (Unary::Invert, LEAST, MOST),
-    ] {
-        assert!(rt; unary(rt.alloc(), op, value)? == (done(5), number));
+    Ok(())
+}
+
+/// Whether each operator on one operand does.
+fn give_alone(rt: &(impl AllocGlobal + Abort), rows: &[(Unary, i32, i32)]) -> Result<(), Fail> {
+    for (op, value, number) in rows {
+        let (ran, found) = unary(rt, rt.alloc(), *op, *value)?;
+        assert!(rt; ran == done(5) && found == *number);
+    }
+    Ok(())
+}
+
+/// Whether each operator traps with its code.
+fn trap(rt: &(impl AllocGlobal + Abort), rows: &[(Binary, i32, i32, u8)]) -> Result<(), Fail> {
+    for (op, left, right, code) in rows {
+        let (ran, _) = binary(rt, rt.alloc(), *op, [*left, *right])?;
+        assert!(rt; ran == trapped(*code, 4, 4));
     }
     Ok(())
 }
 
 #[test]
+fn operators_give_numbers(rt: HostRuntime) -> Result<(), Fail> {
+    give(&rt, &NUMBERS)?;
+    give_alone(&rt, &UNARY_NUMBERS)
+}
+
+#[test]
 fn operators_trap_at_their_line(rt: HostRuntime) -> Result<(), Fail> {
-    for (op, left, right, code) in [
-        (Binary::ShiftLeft, -1, 0, 3),
-        (Binary::ShiftLeft, 1, 31, 3),
-        (Binary::ShiftLeft, 1, 32, 3),
-        (Binary::ShiftLeft, 1, -1, 3),
-        (Binary::ShiftRight, 1, 32, 3),
-        (Binary::ShiftRight, 5, -1, 3),
-        (Binary::Add, MOST, 1, 1),
-        (Binary::Add, LEAST, -1, 1),
-        (Binary::Subtract, LEAST, 1, 1),
-        (Binary::Multiply, 65536, 32768, 1),
-        (Binary::Divide, LEAST, -1, 1),
-        (Binary::Divide, LEAST, 0, 2),
-        (Binary::Remainder, LEAST, -1, 1),
-        (Binary::Remainder, 7, 0, 2),
-    ] {
-        let (ran, _) = binary(rt.alloc(), op, [left, right])?;
-        assert!(rt; ran == trapped(code, 4, 4));
-    }
-    let (ran, _) = unary(rt.alloc(), Unary::Minus, LEAST)?;
+    trap(&rt, &TRAPS)?;
+    let (ran, _) = unary(&rt, rt.alloc(), Unary::Minus, LEAST)?;
     assert!(rt; ran == trapped(1, 4, 3));
     Ok(())
 }
@@ -449,11 +481,11 @@ fn operators_trap_at_their_line(rt: HostRuntime) -> Result<(), Fail> {
 #[test]
 fn three_calls_deep_a_trap_keeps_its_line(rt: HostRuntime) -> Result<(), Fail> {
     assert!(rt;
-        deep(rt.alloc(), (0, 3), (1, 3))?
+        deep(&rt, rt.alloc(), (0, 3), (1, 3))?
             == (taking(3, trapped(2, 33, 13)), taking(3, done(18)), [1])
     );
     assert!(rt;
-        deep(rt.alloc(), (0, 2), (-1, 4))? == (taking(2, over(9)), taking(3, done(18)), [-1])
+        deep(&rt, rt.alloc(), (0, 2), (-1, 4))? == (taking(2, over(9)), taking(3, done(18)), [-1])
     );
     Ok(())
 }
@@ -471,7 +503,7 @@ fn a_trap_in_a_test_behind_a_turn_has_taken_the_turn(rt: HostRuntime) -> Result<
         Instr::JumpZero(5),
         Instr::End,
     ];
-    let (before, ran, _) = run_alone(rt.alloc(), &body, ([1, 0], 0), ([1, 0], 2))?;
+    let (before, ran, _) = run_alone(&rt, rt.alloc(), &body, ([1, 0], 0), ([1, 0], 2))?;
     assert!(rt; before == over(1));
     assert!(rt; ran == taking(1, trapped(2, 4, 4)));
     Ok(())
@@ -479,7 +511,7 @@ fn a_trap_in_a_test_behind_a_turn_has_taken_the_turn(rt: HostRuntime) -> Result<
 
 #[test]
 fn eight_windows_have_their_own_places(rt: HostRuntime) -> Result<(), Fail> {
-    let (first, second, outputs) = eight(rt.alloc(), 4, 3)?;
+    let (first, second, outputs) = eight(&rt, rt.alloc(), 4, 3)?;
     assert!(rt; first == trapped(4, 4, 3));
     assert!(rt; second == done(8));
     assert!(rt; (outputs[8], outputs[9], outputs[10], outputs[35]) == (0, 9, 0, 8));

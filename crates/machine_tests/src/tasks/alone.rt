@@ -1,15 +1,14 @@
 //! A body that is run alone: a task over a window of three inputs, 10, 20 and 30, one of two outputs, and an output that
 //! goes to `osout`; and a function that adds 1 and a slot of its own to its argument, keeps the sum in that slot, and leaves a 9 behind.
 
-ghost use Rattle.std.specs.Prelude.{◌≡◌, ◌≤◌, ◌++◌, IfOk, length, true};
-ghost use Rattle.os_code.specs.Checking.{is_valid};
-ghost use Rattle.machine_tests.specs.Written.{alone};
+ghost use Rattle.std.specs.Prelude.{◌≤◌, length};
 
 use crate::task_runs::{Ran, run_twice};
 use flow_core_laws::Claim;
 use os_code::{Binary, Instr, SiteItem, Unit};
 use os_io::Memory;
 use std::alloc::Global;
+use std::process::Abort;
 
 /// What stands behind a body: the function, and `main`.
 const BEHIND: [Instr; 10] = [
@@ -75,13 +74,13 @@ const CLAIMS: [Claim; 3] = [
 
 /// Runs a body twice with one scratch: with two captured values and a budget, and then with others.
 pub(crate) fn run_alone(
+    rt: &impl Abort,
     alloc: Global,
     body: &[Instr],
     first: ([i32; 2], u64),
     second: ([i32; 2], u64),
 ) -> Result<(Ran, Ran, [i32; 3]), Memory>
     requires short { length body.now ≤ 1000 }
-    requires valid { is_valid (alone body.now) ≡ true }
     requires budget { first.1 ≤ 1000000000 }
     requires other_budget { second.1 ≤ 1000000000 }
 {
@@ -109,6 +108,7 @@ pub(crate) fn run_alone(
     ];
     let mut outputs = [0; 3];
     let (before, ran) = run_twice(
+        rt,
         alloc,
         instrs.as_slice(),
         &units,
@@ -125,9 +125,7 @@ pub(crate) fn run_alone(
 }
 
 /// The instructions of a body and what stands behind it.
-fn with_behind(alloc: Global, body: &[Instr]) -> Result<Vec<Instr>, Memory>
-    ensures { IfOk result (λ instrs. instrs.items ≡ body.now ++ BEHIND) }
-{
+fn with_behind(alloc: Global, body: &[Instr]) -> Result<Vec<Instr>, Memory> {
     let mut instrs = Vec::new(alloc);
     instrs.extend_from_slice(body)?;
     instrs.extend_from_slice(&BEHIND)?;

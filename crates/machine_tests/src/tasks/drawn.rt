@@ -9,7 +9,7 @@ use os_code::Instr::{
 };
 use os_code::{Binary, Instr, Unary};
 
-pub(crate) const DRAWN: [Case<'static>; 40] = [
+pub(crate) static DRAWN: [Case<'static>; 40] = [
     (
         &[
             Load(5),

@@ -8,7 +8,7 @@ use os_code::Instr::{
 };
 use os_code::{Binary, Instr};
 
-pub(crate) const FORMS: [Case<'static>; 49] = [
+pub(crate) static FORMS: [Case<'static>; 49] = [
     (
         &[
             Load(0),
@@ -1710,7 +1710,7 @@ pub(crate) const FORMS: [Case<'static>; 49] = [
 
 /// The same of forms of windows and of operators, of which some are named by their operator and some aren't. (Both in one table are more
 /// than the prover can take.)
-pub(crate) const FORMS_OF_WINDOWS_AND_OPERATORS: [Case<'static>; 13] = [
+pub(crate) static FORMS_OF_WINDOWS_AND_OPERATORS: [Case<'static>; 13] = [
     (
         &[
             Load(1),

@@ -28,7 +28,7 @@ const LESS: Instr = Instr::Binary {
     line: 4,
 };
 
-pub(crate) const CASES: [Case<'static>; 29] = [
+pub(crate) static CASES: [Case<'static>; 29] = [
     (&[End], &[([0, 0], 0, Done, 1, NONE)]),
     (
         &[Push(0), Push(7), SET, End],
