@@ -1013,6 +1013,57 @@ run serve folder
 check "a folder of jobs" 5 "" "read fault jobs"
 run serve long.bin
 check "a file of jobs that is too long" 4 "" "too long jobs"
+# served NAME JOBS ANSWERS: compares what is answered to jobs, as printf writes them.
+served() {
+    printf '%b' "$2" >some.jobs
+    printf '%b' "$3" >wanted
+    run serve some.jobs
+    agree "$1" 0 wanted ""
+}
+cat >parts.c <<'END'
+int main(void) {
+    int i;
+    for (i = 0; i < osin_len; i++) {
+        int x, y;
+        #pragma omp task input(osin >> x) output(osout << y)
+        y = 100 / x;
+    }
+}
+END
+echo 'int main(void) { y = ; }' >bad.c
+done_in_four='status 0 out 4 report 27\n\004\003\002\001control done\noutput 4 of 4\n'
+bad_words='status 2 out 0 report 6\nusage\n'
+served "an empty line" '\n' "job 0 $bad_words"
+served "two empty lines before another one" '\n\nstop\n' "job 0 ${bad_words}job 1 ${bad_words}job 2 $bad_words"
+served "spaces and tabs round words" ' \trun  first.c\tin.bin \r\n' "job 0 $done_in_four"
+served "a job by one worker" 'run first.c in.bin --workers 1' "job 0 $done_in_four"
+served "a job of which a byte traps" 'run parts.c zero.bin\n' \
+    'job 0 status 1 out 1 report 51\n\062trapped 1 code 2 line 6\ncontrol done\noutput 1 of 3\n'
+served "a job behind one whose text is refused" 'run bad.c in.bin\nrun first.c in.bin\n' \
+    "job 0 status 3 out 0 report 17\nrefused 4 line 1\njob 1 $done_in_four"
+served "a job behind two whose files aren't there" 'run first.c none\nrun none in.bin\nrun first.c in.bin\n' \
+    "job 0 status 5 out 0 report 17\nread fault input\njob 1 status 5 out 0 report 19\nread fault program\njob 2 $done_in_four"
+served "a job behind one whose text is too long" 'run long.c in.bin\nrun first.c in.bin\n' \
+    "job 0 status 4 out 0 report 17\ntoo long program\njob 1 $done_in_four"
+served "a job of bytes that are made" 'gen 1 2\n' \
+    'job 0 status 0 out 60 report 0\nseed 1 blocks 2\ninput 8 sum 1363\noutput 8 sum 1172\nstatus 0\n'
+served "servers as jobs" 'serve jobs\nserve\nserve a b\n' "job 0 ${bad_words}job 1 ${bad_words}job 2 $bad_words"
+served "a line that isn't text" 'run first.c \377\nrun first.c in.bin\n' "job 0 ${bad_words}job 1 $done_in_four"
+served "a name with a byte 0" 'run first.c in.bin\000\n' 'job 0 status 5 out 0 report 17\nread fault input\n'
+served "a letter that a line feed parts" '\303\n\251' "job 0 ${bad_words}job 1 $bad_words"
+# filled NAME JOBS LAST LENGTH STATUS ANSWERS REPORT: compares what is answered to jobs with spaces behind them and a last byte, of so many bytes
+# in all.
+filled() {
+    { printf "%-$(($4 - 1))s" "$(printf '%b' "$2")"; printf '%b' "$3"; } >some.jobs
+    printf '%b' "$6" >wanted
+    run serve some.jobs
+    agree "$1" "$5" wanted "$7"
+}
+filled "a job of as many bytes as may be" 'run first.c in.bin' ' ' 4194304 0 "job 0 $done_in_four" ""
+filled "such a job with its line feed" 'run first.c in.bin' '\n' 4194304 0 "job 0 $done_in_four" ""
+filled "a job of a byte more" 'run first.c in.bin' ' ' 4194305 4 "" "too long jobs"
+filled "a job of a byte more, with its line feed" 'run first.c in.bin' '\n' 4194305 4 "" "too long jobs"
+filled "a job before one that is too long" 'run first.c in.bin\nstop' '\n' 4194305 4 "job 0 $done_in_four" "too long jobs"
 for words in "" "two.jobs more" "--help two.jobs" "two.jobs --workers 1"; do
     # shellcheck disable=SC2086
     run serve $words

@@ -10,18 +10,10 @@ mod workers;
 
 use calls::Left;
 use std::process::Abort;
-use std::test::Fail;
 
 /// Asks that a call left this output, report and status.
-fn has_left(
-    rt: &impl Abort,
-    left: &Left,
-    out: &[u8],
-    report: &str,
-    status: u8,
-) -> Result<(), Fail> {
+fn has_left(rt: &impl Abort, left: &Left, out: &[u8], report: &str, status: u8) {
     assert!(rt; left.report.as_slice() == report.as_bytes());
     assert!(rt; left.out.as_slice() == out);
     assert!(rt; left.status == status, "{report}");
-    Ok(())
 }

@@ -10,7 +10,6 @@ use flow_core_laws::ControlEnd;
 use os_code::Code;
 use std::alloc::Global;
 use std::process::Abort;
-use std::test::Fail;
 use std::thread::Threads;
 use task_workers::NoGate;
 
@@ -61,7 +60,7 @@ const TRAPS: &str = r"int main(void) {
 /// A program with the turns of `main`, how `main` ends, and how many activations it creates.
 type Case = (&'static str, u64, ControlEnd, usize);
 
-const CASES: [Case; 4] = [
+static CASES: [Case; 4] = [
     (ACTIVATIONS, 1_000_000, ControlEnd::Limit(1), 65_536),
     (ELEMENTS, 1_000_000, ControlEnd::Limit(2), 64),
     (TURNS, 100, ControlEnd::OverBudget, 100),
@@ -73,7 +72,7 @@ const CASES: [Case; 4] = [
     ),
 ];
 
-const INPUT: [u8; 5] = [1, 2, 3, 4, 5];
+static INPUT: [u8; 5] = [1, 2, 3, 4, 5];
 
 /// A run in epochs of at most so many activations, by so many workers, with so many turns for `main`.
 fn run<R: Threads + Sync>(
@@ -113,12 +112,59 @@ fn run_in_order<R: Threads + Sync>(
     run_epochs(rt, alloc, code, &INPUT, budgets, workers, &NoGate).ok()
 }
 
-/// Whether a run came to the same as another one.
-fn is_same(run: Option<RunResult>, whole: &RunResult) -> bool {
-    match run {
+/// Whether a run in epochs of at most so many activations comes to the same as another one.
+fn is_same<R: Threads + Sync>(
+    rt: &R,
+    alloc: Global,
+    code: &Code,
+    control: u64,
+    activations: u32,
+    workers: u32,
+    whole: &RunResult,
+) -> bool
+    requires some { 1 ≤ activations }
+    requires workers { (1 ≤ workers) × (workers ≤ 64) }
+    requires budget { control ≤ 1000000 }
+{
+    match run(rt, alloc, code, control, activations, workers) {
         Some(run) => are_same(&run, whole),
         None => false,
     }
+}
+
+/// Whether a run in control order does.
+fn is_same_in_order<R: Threads + Sync>(
+    rt: &R,
+    alloc: Global,
+    code: &Code,
+    control: u64,
+    workers: u32,
+    whole: &RunResult,
+) -> bool
+    requires workers { (1 ≤ workers) × (workers ≤ 64) }
+    requires budget { control ≤ 1000000 }
+{
+    match run_in_order(rt, alloc, code, control, workers) {
+        Some(run) => are_same(&run, whole),
+        None => false,
+    }
+}
+
+/// Whether each way of a run comes to the same as one epoch.
+fn are_all_same<R: Threads + Sync>(
+    rt: &R,
+    alloc: Global,
+    code: &Code,
+    control: u64,
+    whole: &RunResult,
+) -> bool
+    requires { control ≤ 1000000 }
+{
+    is_same(rt, alloc, code, control, 7, 1, whole)
+        && is_same(rt, alloc, code, control, 4096, 1, whole)
+        && is_same(rt, alloc, code, control, 4096, 3, whole)
+        && is_same_in_order(rt, alloc, code, control, 1, whole)
+        && is_same_in_order(rt, alloc, code, control, 3, whole)
 }
 
 /// Whether each way of a run comes to what one epoch comes to, in which `main` ends so and creates so many activations.
@@ -137,22 +183,20 @@ fn ends_so<R: Threads + Sync>(
     };
     whole.control == end
         && whole.ends.ends.len() == count
-        && is_same(run(rt, alloc, code, control, 7, 1), &whole)
-        && is_same(run(rt, alloc, code, control, 4096, 1), &whole)
-        && is_same(run(rt, alloc, code, control, 4096, 3), &whole)
-        && is_same(run_in_order(rt, alloc, code, control, 1), &whole)
-        && is_same(run_in_order(rt, alloc, code, control, 3), &whole)
+        && are_all_same(rt, alloc, code, control, &whole)
+}
+
+/// Asks that a program does so.
+fn ends_as_told<R: Threads + Sync + Abort>(rt: &R, alloc: Global, case: &Case) {
+    let (text, control, end, count) = *case;
+    let code = compiled(rt, alloc, text).expect(rt, "a program");
+    let right = ends_so(rt, alloc, &code, control.min(1_000_000), end, count);
+    assert!(rt; right, "{text}");
 }
 
 #[test]
-fn main_ends_in_the_middle_of_an_epoch(rt: HostRuntime) -> Result<(), Fail> {
-    for case in CASES {
-        let (text, control, end, count) = case;
-        let Some(code) = compiled(&rt, rt.alloc(), text) else {
-            return Err(Fail::from("a program, and ample memory"));
-        };
-        let right = ends_so(&rt, rt.alloc(), &code, control.min(1_000_000), end, count);
-        assert!(rt; right, "{text}");
+fn main_ends_in_the_middle_of_an_epoch(rt: HostRuntime) {
+    for case in &CASES {
+        ends_as_told(&rt, rt.alloc(), case);
     }
-    Ok(())
 }

@@ -159,7 +159,7 @@ const LONG: &str = r"int main(void) {
 }
 ";
 
-const PROGRAMS: [&str; 7] = [WAITING, BACKWARD, KEPT, TICKED, STARVED, POISONED, LONG];
+static PROGRAMS: [&str; 7] = [WAITING, BACKWARD, KEPT, TICKED, STARVED, POISONED, LONG];
 
 /// Asks that a program comes to the same in each way as in one epoch.
 fn comes_to_the_same<R: Threads + Sync + Abort>(rt: &R, alloc: Global, text: &str) {
@@ -176,7 +176,7 @@ fn comes_to_the_same<R: Threads + Sync + Abort>(rt: &R, alloc: Global, text: &st
 
 #[test]
 fn each_way_comes_to_what_one_epoch_comes_to(rt: HostRuntime) {
-    for text in PROGRAMS {
-        comes_to_the_same(&rt, rt.alloc(), text);
+    for text in &PROGRAMS {
+        comes_to_the_same(&rt, rt.alloc(), *text);
     }
 }

@@ -10,7 +10,6 @@ use os_code::Code;
 use std::alloc::Global;
 use std::process::Abort;
 use std::sync::atomic::{AtomicU32, Ordering};
-use std::test::Fail;
 use std::thread::Threads;
 use task_workers::{Gate, NoGate};
 
@@ -133,7 +132,7 @@ const WAITING: &str = r"int main(void) {
 type Case = (&'static str, u64, u32, u32);
 
 /// The first 1,024 run alone. `main` of the second one has turns for 7,000 of its loop. Behind the one that waits, the others run in epochs.
-const CASES: [Case; 6] = [
+static CASES: [Case; 6] = [
     (PAIRS, 1_000_000, 1_024, 2_000),
     (PAIRS, 7_000, 1_024, 2_000),
     (THREES, 1_000_000, 1_024, 2_000),
@@ -187,30 +186,33 @@ fn shared<R: Threads + Sync>(
 ) -> Option<(bool, u32, u32)>
     requires { control ≤ 1000000 }
 {
-    let alone = run(rt, alloc, code, control, 1, &NoGate)?;
     let calls = Calls {
         count: AtomicU32::new(0),
         largest: AtomicU32::new(0),
     };
+    let alone = run(rt, alloc, code, control, 1, &NoGate)?;
     let run = run(rt, alloc, code, control, 4, &calls)?;
+    let same = are_same(&run, &alone);
     let count = calls.count.load(Ordering::SeqCst);
     let largest = calls.largest.load(Ordering::SeqCst);
-    Some((are_same(&run, &alone), count, largest))
+    Some((same, count, largest))
+}
+
+/// Asks that a program comes to the same, and how many of its activations aren't run by shares.
+fn is_shared<R: Threads + Sync + Abort>(rt: &R, alloc: Global, case: &Case) {
+    let (text, control, least, most) = *case;
+    let code = compiled(rt, alloc, text).expect(rt, "a program");
+    let (same, calls, largest) = shared(rt, alloc, &code, control.min(1_000_000)).expect(
+        rt, "memory",
+    );
+    assert!(rt; same, "{text}");
+    assert!(rt; least <= calls && calls <= most, "{calls} of {text}");
+    assert!(rt; largest < MOST_FRAMES, "{largest} of {text}");
 }
 
 #[test]
-fn shares_come_to_what_one_worker_comes_to(rt: HostRuntime) -> Result<(), Fail> {
-    for (text, control, least, most) in CASES {
-        assert!(rt; control <= 1_000_000);
-        let Some(code) = compiled(&rt, rt.alloc(), text) else {
-            return Err(Fail::from("a program"));
-        };
-        let Some((same, calls, largest)) = shared(&rt, rt.alloc(), &code, control) else {
-            return Err(Fail::from("ample memory"));
-        };
-        assert!(rt; same, "{text}");
-        assert!(rt; least <= calls && calls <= most, "{calls} of {text}");
-        assert!(rt; largest < MOST_FRAMES, "{largest} of {text}");
+fn shares_come_to_what_one_worker_comes_to(rt: HostRuntime) {
+    for case in &CASES {
+        is_shared(&rt, rt.alloc(), case);
     }
-    Ok(())
 }

@@ -7,7 +7,7 @@ use std::io::{self, Write};
 use std::os::fd::AsRawFd;
 use std::test::Fail;
 
-const STEPS: [Step<'static>; 12] = [
+static STEPS: [Step<'static>; 12] = [
     // there is no such file, and none is open
     (Call::Open("io_tests_no_such_file"), Err(Failed), b"\0\0\0"),
     (Call::Read, Ok(0), b"\0\0\0"),

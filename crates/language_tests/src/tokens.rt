@@ -7,40 +7,39 @@ use os_lexer::{Token, lex};
 use std::alloc::Global;
 use std::fmt::Write;
 use std::process::Abort;
-use std::test::Fail;
 
 /// Adds what stands behind a `°`: the byte of two digits, and the rest.
-fn push_coded(bytes: &mut Vec<u8>, piece: &[u8]) -> Result<(), Fail> {
-    let Some((digits, rest)) = piece.split_at_checked(2) else {
-        return Err(Fail::from("two digits"));
-    };
-    bytes.push(u8::from_str_radix(str::from_utf8(digits)?, 16)?)?;
-    bytes.extend_from_slice(rest)?;
-    Ok(())
+fn push_coded(rt: &impl Abort, bytes: &mut Vec<u8>, piece: &[u8]) {
+    let (digits, rest) = piece.split_at_checked(2).expect(rt, "two digits");
+    let digits = str::from_utf8(digits).expect(rt, "two digits");
+    let byte = u8::from_str_radix(digits, 16).expect(rt, "two digits");
+    bytes.push(byte).expect(rt, "memory");
+    bytes.extend_from_slice(rest).expect(rt, "memory");
 }
 
 /// Adds the bytes of a row's text, whose line feeds are there.
-fn push_text(bytes: &mut Vec<u8>, text: &str) -> Result<(), Fail> {
+fn push_text(rt: &impl Abort, bytes: &mut Vec<u8>, text: &str) {
     let mut pieces = text.split("°");
     if let Some(first) = pieces.next() {
-        bytes.extend_from_slice(first.as_bytes())?;
+        bytes
+            .extend_from_slice(first.as_bytes())
+            .expect(rt, "memory");
     }
     for piece in pieces {
-        push_coded(bytes, piece.as_bytes())?;
+        push_coded(rt, bytes, piece.as_bytes());
     }
-    Ok(())
 }
 
 /// The bytes of a row's text.
-fn bytes_of(alloc: Global, text: &str) -> Result<Vec<u8>, Fail> {
-    let text = text.replace(alloc, "¶", "\n")?;
+fn bytes_of(rt: &impl Abort, alloc: Global, text: &str) -> Vec<u8> {
+    let text = text.replace(alloc, "¶", "\n").expect(rt, "memory");
     let mut bytes = Vec::new(alloc);
-    push_text(&mut bytes, &text)?;
-    Ok(bytes)
+    push_text(rt, &mut bytes, &text);
+    bytes
 }
 
 /// Each token with its slice and its line.
-fn write_tokens(out: &mut String, tokens: &[Token]) -> Result<(), Fail> {
+fn write_tokens(rt: &impl Abort, out: &mut String, tokens: &[Token]) {
     for token in tokens {
         let Token {
             kind,
@@ -48,49 +47,39 @@ fn write_tokens(out: &mut String, tokens: &[Token]) -> Result<(), Fail> {
             end,
             line,
         } = *token;
-        write!(out, " {kind:?}@{start}-{end}:{line}")?;
+        write!(out, " {kind:?}@{start}-{end}:{line}").expect(rt, "memory");
     }
-    Ok(())
 }
 
 /// The tokens of a text, or the error.
-fn write_lexed(out: &mut String, alloc: Global, text: &[u8]) -> Result<(), Fail> {
-    if text.len() > 262_144 {
-        return Err(Fail::from("the text is too long"));
-    }
+fn write_lexed(rt: &impl Abort, out: &mut String, alloc: Global, text: &[u8]) {
+    assert!(rt; text.len() <= 262_144);
     match lex(alloc, text) {
-        Ok(tokens) => write_tokens(out, &tokens),
-        Err(error) => {
-            write!(out, " {error:?}")?;
-            Ok(())
-        }
+        Ok(tokens) => write_tokens(rt, out, &tokens),
+        Err(error) => write!(out, " {error:?}").expect(rt, "memory"),
     }
 }
 
 /// What the text of a row is taken apart into.
-fn shown(alloc: Global, text: &str) -> Result<String, Fail> {
-    let bytes = bytes_of(alloc, text)?;
+fn shown(rt: &impl Abort, alloc: Global, text: &str) -> String {
+    let bytes = bytes_of(rt, alloc, text);
     let mut out = String::new(alloc);
-    write_lexed(&mut out, alloc, &bytes)?;
-    Ok(out)
+    write_lexed(rt, &mut out, alloc, &bytes);
+    out
 }
 
 /// A row holds.
-fn holds(rt: &impl Abort, alloc: Global, row: &str) -> Result<(), Fail> {
-    let Some((text, wanted)) = row.split_once(" =>") else {
-        return Err(Fail::from("a row with an arrow"));
-    };
-    let found = shown(alloc, text)?;
+fn holds(rt: &impl Abort, alloc: Global, row: &str) {
+    let (text, wanted) = row.split_once(" =>").expect(rt, "a row with an arrow");
+    let found = shown(rt, alloc, text);
     assert!(rt; found.as_str() == wanted, "{row}: {found}");
-    Ok(())
 }
 
 /// Each row of a table holds.
-fn hold(rt: &impl Abort, alloc: Global, rows: &str) -> Result<(), Fail> {
+fn hold(rt: &impl Abort, alloc: Global, rows: &str) {
     for row in rows.lines() {
-        holds(rt, alloc, row)?;
+        holds(rt, alloc, row);
     }
-    Ok(())
 }
 
 const FAULTS_HAVE_THEIR_LINE: &str = "int main(void) { /* x => OpenComment { line: 1 }
@@ -108,8 +97,8 @@ $ => BadByte { line: 1 }
 ` => BadByte { line: 1 }";
 
 #[test]
-fn faults_have_their_line(rt: HostRuntime) -> Result<(), Fail> {
-    hold(&rt, rt.alloc(), FAULTS_HAVE_THEIR_LINE)
+fn faults_have_their_line(rt: HostRuntime) {
+    hold(&rt, rt.alloc(), FAULTS_HAVE_THEIR_LINE);
 }
 
 const WHITE_SPACE_AND_JOINED_LINES: &str = " =>
@@ -122,8 +111,8 @@ in°5c°0d¶t => Name(12)@0-2:1 Name(13)@5-6:2
 a°0d¶b => Name(12)@0-1:1 Name(13)@3-4:2";
 
 #[test]
-fn white_space_and_joined_lines(rt: HostRuntime) -> Result<(), Fail> {
-    hold(&rt, rt.alloc(), WHITE_SPACE_AND_JOINED_LINES)
+fn white_space_and_joined_lines(rt: HostRuntime) {
+    hold(&rt, rt.alloc(), WHITE_SPACE_AND_JOINED_LINES);
 }
 
 const COMMENTS: &str = "/*/ => OpenComment { line: 1 }
@@ -142,8 +131,8 @@ a//b => Name(12)@0-1:1
 a/*¶*/b => Name(12)@0-1:1 Name(13)@6-7:2";
 
 #[test]
-fn comments(rt: HostRuntime) -> Result<(), Fail> {
-    hold(&rt, rt.alloc(), COMMENTS)
+fn comments(rt: HostRuntime) {
+    hold(&rt, rt.alloc(), COMMENTS);
 }
 
 const WORDS: &str =
@@ -159,8 +148,8 @@ x int x => Name(12)@0-1:1 Key(Int)@2-5:1 Name(12)@6-7:1
 + a + a => Punct(Plus)@0-1:1 Name(13)@2-3:1 Punct(Plus)@4-5:1 Name(13)@6-7:1";
 
 #[test]
-fn words(rt: HostRuntime) -> Result<(), Fail> {
-    hold(&rt, rt.alloc(), WORDS)
+fn words(rt: HostRuntime) {
+    hold(&rt, rt.alloc(), WORDS);
 }
 
 const NUMBERS: &str =
@@ -185,8 +174,8 @@ const NUMBERS: &str =
 0xffffffffffffffffffffffff1 => BigNumber { line: 1 }";
 
 #[test]
-fn numbers(rt: HostRuntime) -> Result<(), Fail> {
-    hold(&rt, rt.alloc(), NUMBERS)
+fn numbers(rt: HostRuntime) {
+    hold(&rt, rt.alloc(), NUMBERS);
 }
 
 const WIDE_NUMBERS: &str =
@@ -221,8 +210,8 @@ const WIDE_NUMBERS: &str =
 0b1u => BadByte { line: 1 }";
 
 #[test]
-fn wide_numbers(rt: HostRuntime) -> Result<(), Fail> {
-    hold(&rt, rt.alloc(), WIDE_NUMBERS)
+fn wide_numbers(rt: HostRuntime) {
+    hold(&rt, rt.alloc(), WIDE_NUMBERS);
 }
 
 const MARKS_ARE_THE_LONGEST: &str =
@@ -243,8 +232,8 @@ a---b => Name(12)@0-1:1 Punct(Down)@1-3:1 Punct(Minus)@3-4:1 Name(15)@4-5:1
 # => BadByte { line: 1 }";
 
 #[test]
-fn marks_are_the_longest(rt: HostRuntime) -> Result<(), Fail> {
-    hold(&rt, rt.alloc(), MARKS_ARE_THE_LONGEST)
+fn marks_are_the_longest(rt: HostRuntime) {
+    hold(&rt, rt.alloc(), MARKS_ARE_THE_LONGEST);
 }
 
 const DIRECTIVES: &str =
@@ -279,6 +268,6 @@ int x;¶#pragma omp¶#pragma omp¶ => Key(Int)@0-3:1 Name(13)@4-5:1 Punct(Semico
 °0c#include =>";
 
 #[test]
-fn directives(rt: HostRuntime) -> Result<(), Fail> {
-    hold(&rt, rt.alloc(), DIRECTIVES)
+fn directives(rt: HostRuntime) {
+    hold(&rt, rt.alloc(), DIRECTIVES);
 }

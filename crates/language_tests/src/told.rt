@@ -7,7 +7,6 @@ use os_ast::Resolved;
 use std::alloc::Global;
 use std::fmt::Write;
 use std::process::Abort;
-use std::test::Fail;
 use window_check::Checked;
 
 /// What a table tells.
@@ -21,8 +20,8 @@ pub(crate) enum Told {
     Captured,
 }
 
-fn write_names(text: &mut String, checked: &Checked) -> Result<(), Fail> {
-    writeln!(text, "{} streams", checked.streams)?;
+fn write_names(rt: &impl Abort, text: &mut String, checked: &Checked) {
+    writeln!(text, "{} streams", checked.streams).expect(rt, "memory");
     for name in checked.names.as_slice() {
         let Resolved {
             place,
@@ -30,78 +29,61 @@ fn write_names(text: &mut String, checked: &Checked) -> Result<(), Fail> {
             unsigned,
         } = *name;
         let kind = if unsigned { " unsigned" } else { "" };
-        writeln!(text, "{place} {what:?}{kind}")?;
+        writeln!(text, "{place} {what:?}{kind}").expect(rt, "memory");
     }
-    Ok(())
 }
 
-fn write_types(text: &mut String, names: &[Resolved]) -> Result<(), Fail> {
+fn write_types(rt: &impl Abort, text: &mut String, names: &[Resolved]) {
     for name in names {
         let place = name.place;
         let kind = if name.unsigned { "unsigned" } else { "int" };
-        writeln!(text, "{place} {kind}")?;
+        writeln!(text, "{place} {kind}").expect(rt, "memory");
     }
-    Ok(())
 }
 
-fn write_slots(text: &mut String, slots: &[u32]) -> Result<(), Fail> {
-    write!(text, "task")?;
+fn write_slots(rt: &impl Abort, text: &mut String, slots: &[u32]) {
+    write!(text, "task").expect(rt, "memory");
     for slot in slots {
-        write!(text, " {slot}")?;
+        write!(text, " {slot}").expect(rt, "memory");
     }
-    writeln!(text)?;
-    Ok(())
+    writeln!(text).expect(rt, "memory");
 }
 
-fn write_captured(text: &mut String, checked: &Checked) -> Result<(), Fail> {
+fn write_captured(rt: &impl Abort, text: &mut String, checked: &Checked) {
     for slots in checked.captured.as_slice() {
-        write_slots(text, slots.as_slice())?;
-    }
-    Ok(())
-}
-
-fn write_told(text: &mut String, told: Told, checked: &Checked) -> Result<(), Fail> {
-    match told {
-        Told::Names => write_names(text, checked),
-        Told::Types => write_types(text, checked.names.as_slice()),
-        Told::Captured => write_captured(text, checked),
+        write_slots(rt, text, slots.as_slice());
     }
 }
 
-fn told_of(alloc: Global, told: Told, checked: &Checked) -> Result<String, Fail> {
+fn told_of(rt: &impl Abort, alloc: Global, told: Told, checked: &Checked) -> String {
     let mut text = String::new(alloc);
-    write_told(&mut text, told, checked)?;
-    Ok(text)
+    match told {
+        Told::Names => write_names(rt, &mut text, checked),
+        Told::Types => write_types(rt, &mut text, checked.names.as_slice()),
+        Told::Captured => write_captured(rt, &mut text, checked),
+    }
+    text
 }
 
 /// What is told of the program of a text.
-fn told_of_text(alloc: Global, told: Told, text: &str) -> Result<String, Fail> {
-    if text.len() > 262_144 {
-        return Err(Fail::from("the text is too long"));
-    }
-    let checked = read_program(alloc, text.as_bytes())?;
-    told_of(alloc, told, &checked)
+fn told_of_text(rt: &impl Abort, alloc: Global, told: Told, text: &str) -> String {
+    assert!(rt; text.len() <= 262_144);
+    let checked = read_program(alloc, text.as_bytes()).expect(rt, text);
+    told_of(rt, alloc, told, &checked)
 }
 
 /// The program of a case is accepted, and this is told of it.
-fn is_told_so(rt: &impl Abort, alloc: Global, told: Told, case: &str) -> Result<(), Fail> {
-    let Some((text, wanted)) = case.split_once("----\n") else {
-        return Err(Fail::from("a program with what is told of it"));
-    };
-    let found = told_of_text(alloc, told, text)?;
+fn is_told_so(rt: &impl Abort, alloc: Global, told: Told, case: &str) {
+    let (text, wanted) = case
+        .split_once("----\n")
+        .expect(rt, "a program with what is told of it");
+    let found = told_of_text(rt, alloc, told, text);
     assert!(rt; found.as_str() == wanted, "{found}");
-    Ok(())
 }
 
 /// Each case of a table.
-pub(crate) fn are_told_so(
-    rt: &impl Abort,
-    alloc: Global,
-    told: Told,
-    cases: &str,
-) -> Result<(), Fail> {
+pub(crate) fn are_told_so(rt: &impl Abort, alloc: Global, told: Told, cases: &str) {
     for case in cases.split("====\n") {
-        is_told_so(rt, alloc, told, case)?;
+        is_told_so(rt, alloc, told, case);
     }
-    Ok(())
 }

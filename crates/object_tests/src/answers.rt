@@ -54,3 +54,13 @@ pub(crate) fn answer_to(alloc: Global, numbers: &[u32]) -> Answer {
         Err(_) => Answer::Memory,
     }
 }
+
+/// Whether objects with these numbers are read so.
+pub(crate) fn are_answered(alloc: Global, rows: &[(&[u32], Answer)]) -> bool {
+    for (numbers, answer) in rows {
+        if answer_to(alloc, *numbers) != *answer {
+            return false;
+        }
+    }
+    true
+}

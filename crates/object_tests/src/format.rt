@@ -1,17 +1,17 @@
 //! Which bytes are objects.
 
-use crate::answers::{Answer, answer_of, answer_to, object_of};
+use crate::answers::{Answer, answer_of, answer_to, are_answered, object_of};
 use std::alloc::Global;
 use std::test::Fail;
 
 /// `main` alone, which ends at once.
-const SHOWN: [u8; 44] = [
+static SHOWN: [u8; 44] = [
     0x4f, 0x53, 0x4f, 0x31, 2, 0, 0, 0, 0, 0, 0, 0, 1, 0, 0, 0, 0, 0, 0, 0, 1, 0, 0, 0, 1, 0, 0, 0,
     0, 0, 0, 0, 0, 0, 0, 0, 1, 0, 0, 0, 0x13, 0, 0, 0,
 ];
 
 /// A function; a task over two windows, which captures a slot and calls it; and `main`, which spawns the task.
-const LARGER: [u32; 75] = [
+static LARGER: [u32; 75] = [
     4,
     2,
     3,
@@ -124,21 +124,25 @@ fn refuses_what_follows(rt: HostRuntime) -> Result<(), Fail> {
     Ok(())
 }
 
+static PAST_THE_TABLES: [(&[u32], Answer); 7] = [
+    // Instruction 25.
+    (&[2, 0, 1, 0, 1, 1, 0, 0, 1, 25], Answer::Format),
+    // The operators behind the last ones.
+    (&[2, 0, 1, 0, 1, 1, 0, 0, 1, 12, 5, 1], Answer::Format),
+    (&[2, 0, 1, 0, 1, 1, 0, 0, 1, 13, 27, 1], Answer::Format),
+    // An item that neither reads nor writes.
+    (
+        &[2, 0, 1, 0, 1, 1, 0, 1, 0, 1, 0, 1, 2, 0, 0, 1, 19],
+        Answer::Format,
+    ),
+    // A length that passes all that is there.
+    (&[2, 0, u32::MAX], Answer::Format),
+    (&[2, 0, 1, 0, 1, 1, 0, u32::MAX, 1, 19], Answer::Format),
+    (&[2, 0, 1, 0, 1, 1, 0, 0, u32::MAX, 19], Answer::Format),
+];
+
 #[test]
 fn refuses_numbers_past_the_tables(rt: HostRuntime) -> Result<(), Fail> {
-    let alloc = rt.alloc();
-    // Instruction 25.
-    assert!(rt; answer_to(alloc, &[2, 0, 1, 0, 1, 1, 0, 0, 1, 25]) == Answer::Format);
-    // The operators behind the last ones.
-    assert!(rt; answer_to(alloc, &[2, 0, 1, 0, 1, 1, 0, 0, 1, 12, 5, 1]) == Answer::Format);
-    assert!(rt; answer_to(alloc, &[2, 0, 1, 0, 1, 1, 0, 0, 1, 13, 27, 1]) == Answer::Format);
-    // An item that neither reads nor writes.
-    assert!(rt;
-        answer_to(alloc, &[2, 0, 1, 0, 1, 1, 0, 1, 0, 1, 0, 1, 2, 0, 0, 1, 19]) == Answer::Format
-    );
-    // A length that passes all that is there.
-    assert!(rt; answer_to(alloc, &[2, 0, u32::MAX]) == Answer::Format);
-    assert!(rt; answer_to(alloc, &[2, 0, 1, 0, 1, 1, 0, u32::MAX, 1, 19]) == Answer::Format);
-    assert!(rt; answer_to(alloc, &[2, 0, 1, 0, 1, 1, 0, 0, u32::MAX, 19]) == Answer::Format);
+    assert!(rt; are_answered(rt.alloc(), &PAST_THE_TABLES));
     Ok(())
 }

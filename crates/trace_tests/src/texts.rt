@@ -1,6 +1,7 @@
 //! Texts, and what they are read as.
 
 use std::alloc::Global;
+use std::process::Abort;
 use std::test::Fail;
 use trace_replay_text::{TraceError, print_trace, read_trace};
 
@@ -35,7 +36,7 @@ fn answer_of(alloc: Global, text: &[u8]) -> Answer {
     }
 }
 
-const TEXTS: [(&[u8], Answer); 24] = [
+static TEXTS: [(&[u8], Answer); 24] = [
     (b"worker 0\n", Answer::Workers(1)),
     (b"worker 0 1 0\n", Answer::Workers(1)),
     (b"worker 0 0\nworker 1 1\n", Answer::Workers(2)),
@@ -83,7 +84,7 @@ fn are_read(alloc: Global, texts: &[(&[u8], Answer)]) -> bool {
 
 #[test]
 fn reads_traces_and_tells_the_first_wrong_line(rt: HostRuntime) -> Result<(), Fail> {
-    assert!(rt; are_read(rt.alloc(), TEXTS.as_slice()));
+    assert!(rt; are_read(rt.alloc(), &TEXTS));
     Ok(())
 }
 
@@ -99,31 +100,23 @@ fn reads_the_frames_of_each_worker(rt: HostRuntime) -> Result<(), Fail> {
 }
 
 /// The lines of as many workers, none of whom ran a frame.
-fn idle(alloc: Global, workers: u8) -> Option<Vec<u8>> {
-    let mut text = Vec::new(alloc);
+fn idle(rt: &impl Abort, alloc: Global, workers: u32) -> String {
+    let mut text = String::new(alloc);
     for worker in 0..workers {
-        text.extend_from_slice(b"worker ").ok()?;
-        if worker >= 10 {
-            text.push(b'0' + worker / 10 % 10).ok()?;
-        }
-        text.push(b'0' + worker % 10).ok()?;
-        text.push(b'\n').ok()?;
+        writeln!(text, "worker {worker}").expect(rt, "memory");
     }
-    Some(text)
+    text
 }
 
-/// What the lines of so many workers are read as.
-fn answer_to(alloc: Global, workers: u8) -> Answer {
-    match idle(alloc, workers) {
-        Some(text) => answer_of(alloc, text.as_slice()),
-        None => Answer::Memory,
-    }
+/// Asks that the lines of so many workers are read so.
+fn is_read(rt: &impl Abort, alloc: Global, workers: u32, answer: Answer) {
+    let text = idle(rt, alloc, workers);
+    assert!(rt; answer_of(alloc, text.as_bytes()) == answer);
 }
 
 #[test]
-fn takes_up_to_64_workers(rt: HostRuntime) -> Result<(), Fail> {
-    assert!(rt; answer_to(rt.alloc(), 64) == Answer::Workers(64));
-    assert!(rt; answer_to(rt.alloc(), 65) == Answer::Line(65));
-    assert!(rt; answer_to(rt.alloc(), 66) == Answer::Line(65));
-    Ok(())
+fn takes_up_to_64_workers(rt: HostRuntime) {
+    is_read(&rt, rt.alloc(), 64, Answer::Workers(64));
+    is_read(&rt, rt.alloc(), 65, Answer::Line(65));
+    is_read(&rt, rt.alloc(), 66, Answer::Line(65));
 }

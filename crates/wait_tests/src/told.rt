@@ -172,7 +172,7 @@ const POISONED: Case<'static> = Case {
     ],
 };
 
-const WALKS: [(Case<'static>, u32, Option<&[u32]>); 11] = [
+static WALKS: [(Case<'static>, u32, Option<&[u32]>); 11] = [
     (CYCLES, 0, Some(&[0, 1])),
     (CYCLES, 1, Some(&[1, 0])),
     (CYCLES, 2, Some(&[2])),
@@ -186,7 +186,7 @@ const WALKS: [(Case<'static>, u32, Option<&[u32]>); 11] = [
     (POISONED, 2, Some(&[2])),
 ];
 
-const CHAINS: [(Case<'static>, &[u32], bool); 18] = [
+static CHAINS: [(Case<'static>, &[u32], bool); 18] = [
     (CYCLES, &[0, 1], true),
     (CYCLES, &[1, 0], true),
     (CYCLES, &[2], true),
@@ -229,12 +229,12 @@ fn all_check(alloc: Global, rows: &[(Case<'static>, &[u32], bool)]) -> Result<bo
 
 #[test]
 fn walks_go_from_the_starved_to_those_they_wait_for(rt: HostRuntime) -> Result<(), Fail> {
-    assert!(rt; all_walk(rt.alloc(), WALKS.as_slice())?);
+    assert!(rt; all_walk(rt.alloc(), &WALKS)?);
     Ok(())
 }
 
 #[test]
 fn chains_are_told_from_other_lists(rt: HostRuntime) -> Result<(), Fail> {
-    assert!(rt; all_check(rt.alloc(), CHAINS.as_slice())?);
+    assert!(rt; all_check(rt.alloc(), &CHAINS)?);
     Ok(())
 }

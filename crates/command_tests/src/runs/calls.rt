@@ -1,7 +1,7 @@
-use os_io::{MemFiles, MemSink};
+use os_io::{MemFiles, MemSink, Memory};
 use osrun_core::{Gate, NoGate, run_words};
 use std::alloc::Global;
-use std::test::Fail;
+use std::process::Abort;
 use std::thread::Threads;
 
 /// How often and how much a sink takes, and the call at which it fails.
@@ -36,24 +36,25 @@ pub(super) struct Left {
     pub(super) report: Vec<u8>,
 }
 
-fn sink(alloc: Global, taking: Taking) -> Result<MemSink, Fail> {
-    let mut sink = MemSink::new(alloc, taking.room, taking.most)?;
+fn sink(rt: &impl Abort, alloc: Global, taking: Taking) -> MemSink {
+    let mut sink = MemSink::new(alloc, taking.room, taking.most).expect(rt, "memory");
     if let Some(call) = taking.failing {
-        sink.fail_at(call)?;
+        sink.fail_at(call).expect(rt, "memory");
     }
-    Ok(sink)
+    sink
 }
 
-fn words_of(alloc: Global, words: &[&str]) -> Result<Vec<String>, Fail> {
+fn words_of(rt: &impl Abort, alloc: Global, words: &[&str]) -> Vec<String> {
     let mut owned = Vec::new(alloc);
     for word in words {
-        owned.push(String::from_str(alloc, word)?)?;
+        let word = String::from_str(alloc, word).expect(rt, "memory");
+        owned.push(word).expect(rt, "memory");
     }
-    Ok(owned)
+    owned
 }
 
 /// Calls the command over two files `p.c` and `in`, of which the call with the number `failing` fails.
-pub(super) fn call<R: Threads + Sync + AllocGlobal>(
+pub(super) fn call<R: Threads + Sync + AllocGlobal + Abort>(
     rt: &R,
     words: &[&str],
     program: &[u8],
@@ -61,16 +62,20 @@ pub(super) fn call<R: Threads + Sync + AllocGlobal>(
     failing: Option<u64>,
     out: Taking,
     report: Taking,
-) -> Result<Left, Fail> {
-    let mut files = files_of(rt.alloc(), program, input)?;
+) -> Left {
+    let mut files = files_of(rt, rt.alloc(), program, input);
     if let Some(call) = failing {
-        files.fail_at(call)?;
+        files.fail_at(call).expect(rt, "memory");
     }
     call_through(rt, words, files, out, report, &NoGate)
 }
 
 /// The files `p.c` and `in`.
-pub(super) fn files_of(alloc: Global, program: &[u8], input: &[u8]) -> Result<MemFiles, Fail> {
+pub(super) fn files_of(rt: &impl Abort, alloc: Global, program: &[u8], input: &[u8]) -> MemFiles {
+    two_files(alloc, program, input).expect(rt, "memory")
+}
+
+fn two_files(alloc: Global, program: &[u8], input: &[u8]) -> Result<MemFiles, Memory> {
     let mut files = MemFiles::new(alloc);
     files.add("p.c", program)?;
     files.add("in", input)?;
@@ -78,22 +83,32 @@ pub(super) fn files_of(alloc: Global, program: &[u8], input: &[u8]) -> Result<Me
 }
 
 /// Calls the command over files, with a gate for its workers.
-pub(super) fn call_through<R: Threads + Sync + AllocGlobal, G: Gate>(
+pub(super) fn call_through<R: Threads + Sync + AllocGlobal + Abort, G: Gate>(
     rt: &R,
     words: &[&str],
     mut files: MemFiles,
     out: Taking,
     report: Taking,
     gate: &G,
-) -> Result<Left, Fail> {
+) -> Left {
     let alloc = rt.alloc();
-    let words = words_of(alloc, words)?;
-    let mut out = sink(alloc, out)?;
-    let mut report = sink(alloc, report)?;
+    let words = words_of(rt, alloc, words);
+    let mut out = sink(rt, alloc, out);
+    let mut report = sink(rt, alloc, report);
     let status = run_words(rt, alloc, &words, &mut files, &mut out, &mut report, gate);
-    Ok(Left {
+    what_was_left(rt, alloc, status, &out, &report)
+}
+
+fn what_was_left(
+    rt: &impl Abort,
+    alloc: Global,
+    status: u8,
+    out: &MemSink,
+    report: &MemSink,
+) -> Left {
+    Left {
         status,
-        out: Vec::from_slice(alloc, out.bytes())?,
-        report: Vec::from_slice(alloc, report.bytes())?,
-    })
+        out: Vec::from_slice(alloc, out.bytes()).expect(rt, "memory"),
+        report: Vec::from_slice(alloc, report.bytes()).expect(rt, "memory"),
+    }
 }

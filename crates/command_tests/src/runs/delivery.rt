@@ -5,14 +5,13 @@ use super::has_left;
 use kernels::INVERT;
 use osrun_core::NoGate;
 use std::process::Abort;
-use std::test::Fail;
 use std::thread::Threads;
 
 const WORDS: [&str; 3] = ["run", "p.c", "in"];
 
-const INPUT: [u8; 8] = [0, 1, 2, 3, 252, 253, 254, 255];
+static INPUT: [u8; 8] = [0, 1, 2, 3, 252, 253, 254, 255];
 
-const OUTPUT: [u8; 8] = [255, 254, 253, 252, 3, 2, 1, 0];
+static OUTPUT: [u8; 8] = [255, 254, 253, 252, 3, 2, 1, 0];
 
 const REPORT: &str = "control done\noutput 8 of 8\n";
 
@@ -20,73 +19,97 @@ const REPORT: &str = "control done\noutput 8 of 8\n";
 const LINES: &str = "seed 1 blocks 2\ninput 8 sum 1363\noutput 8 sum 1172\nstatus 0\n";
 
 /// Takes so many bytes in all.
-fn narrow(room: u32) -> Taking {
-    Taking {
-        room,
-        most: 64,
-        failing: None,
-    }
+macro_rules! narrow {
+    ($room:expr) => {
+        Taking {
+            room: $room,
+            most: 64,
+            failing: None,
+        }
+    };
 }
 
+/// Takes so many bytes a call, until the call with this number fails.
+macro_rules! breaking {
+    ($most:expr, $call:expr) => {
+        Taking {
+            room: 64,
+            most: $most,
+            failing: Some($call),
+        }
+    };
+}
+
+/// Takes a byte a call.
+const SLOW: Taking = Taking {
+    room: 64,
+    most: 1,
+    failing: None,
+};
+
+/// How the output and the report are taken, how many bytes of each are taken, and the status.
+type Row = (Taking, Taking, usize, usize, u8);
+
+static ROWS: [Row; 9] = [
+    (SLOW, SLOW, 8, 27, 0),
+    (breaking!(3, 0), ALL, 0, 0, 6),
+    (breaking!(3, 1), ALL, 3, 0, 6),
+    (narrow!(5), ALL, 5, 0, 6),
+    (narrow!(0), ALL, 0, 0, 6),
+    (ALL, breaking!(64, 0), 8, 0, 6),
+    (ALL, breaking!(3, 1), 8, 3, 6),
+    (ALL, narrow!(3), 8, 3, 6),
+    (ALL, narrow!(13), 8, 13, 6),
+];
+
 /// Asks that so many bytes of the output and of the report are taken where the blocks of 4 are inverted over sinks that take so.
-fn delivers<R: Threads + Sync + AllocGlobal + Abort>(
-    rt: &R,
-    takings: (Taking, Taking),
-    bytes: usize,
-    lines: usize,
-    status: u8,
-) -> Result<(), Fail> {
-    let (out, told) = takings;
-    let left = call(rt, &WORDS, INVERT.as_bytes(), &INPUT, None, out, told)?;
+fn delivers<R: Threads + Sync + AllocGlobal + Abort>(rt: &R, row: Row) {
+    let (out, told, bytes, lines, status) = row;
+    let left = call(rt, &WORDS, INVERT.as_bytes(), &INPUT, None, out, told);
     assert!(rt; left.status == status);
     assert!(rt; OUTPUT.as_slice().get(..bytes) == Some(left.out.as_slice()));
     assert!(rt; REPORT.as_bytes().get(..lines) == Some(left.report.as_slice()));
-    Ok(())
+}
+
+fn all_deliver<R: Threads + Sync + AllocGlobal + Abort>(rt: &R, rows: &[Row]) {
+    for row in rows {
+        delivers(rt, *row);
+    }
 }
 
 #[test]
-fn what_was_taken_is_a_front(rt: HostRuntime) -> Result<(), Fail> {
-    let slow = Taking {
-        room: 64,
-        most: 1,
-        failing: None,
-    };
-    for (out, told, bytes, lines, status) in [
-        (slow, slow, 8, 27, 0),
-        (failing(3, 0), ALL, 0, 0, 6),
-        (failing(3, 1), ALL, 3, 0, 6),
-        (narrow(5), ALL, 5, 0, 6),
-        (narrow(0), ALL, 0, 0, 6),
-        (ALL, failing(64, 0), 8, 0, 6),
-        (ALL, failing(3, 1), 8, 3, 6),
-        (ALL, narrow(3), 8, 3, 6),
-        (ALL, narrow(13), 8, 13, 6),
-    ] {
-        delivers(&rt, (out, told), bytes, lines, status)?;
-    }
+fn what_was_taken_is_a_front(rt: HostRuntime) {
+    all_deliver(&rt, &ROWS);
     for taken in 0..8 {
-        delivers(&rt, (failing(1, taken as u64), ALL), taken, 0, 6)?;
+        delivers(&rt, (failing(1, taken as u64), ALL, taken, 0, 6));
     }
     for taken in 0..27 {
-        delivers(&rt, (ALL, failing(1, taken as u64)), 8, taken, 6)?;
+        delivers(&rt, (ALL, failing(1, taken as u64), 8, taken, 6));
     }
-    Ok(())
+}
+
+/// How an output takes lines, and how many bytes of them.
+static LINES_TAKEN: [(Taking, usize); 6] = [
+    (narrow!(0), 0),
+    (narrow!(5), 5),
+    (narrow!(59), 59),
+    (breaking!(64, 0), 0),
+    (breaking!(3, 1), 3),
+    (breaking!(1, 16), 16),
+];
+
+/// Asks that so many bytes of the lines are taken.
+fn lines_are_cut<R: Threads + Sync + AllocGlobal + Abort>(rt: &R, rows: &[(Taking, usize)]) {
+    for (out, taken) in rows {
+        let left = call(rt, &["gen", "1", "2"], &[], &[], None, *out, ALL);
+        let lines = LINES.as_bytes();
+        has_left(rt, &left, &lines[..(*taken).min(lines.len())], "", 6);
+    }
 }
 
 #[test]
-fn what_an_output_takes_of_lines_is_a_front(rt: HostRuntime) -> Result<(), Fail> {
-    for (out, taken) in [
-        (narrow(0), 0),
-        (narrow(5), 5),
-        (narrow(59), 59),
-        (failing(64, 0), 0),
-        (failing(3, 1), 3),
-        (failing(1, 16), 16),
-    ] {
-        let left = call(&rt, &["gen", "1", "2"], &[], &[], None, out, ALL)?;
-        has_left(&rt, &left, &LINES.as_bytes()[..taken], "", 6)?;
-    }
-    Ok(())
+fn what_an_output_takes_of_lines_is_a_front(rt: HostRuntime) {
+    lines_are_cut(&rt, &LINES_TAKEN);
 }
 
 /// The first of 5,000 activations waits for the last.
@@ -103,11 +126,9 @@ const ACROSS: &str = r"int main(void) {
 }
 ";
 
-/// A long run is cut at its first byte, words are refused where nobody can be told, and an empty output is delivered where nothing is
-/// taken.
+/// A long run is cut at its first byte.
 #[test]
-fn nothing_is_taken(rt: HostRuntime) -> Result<(), Fail> {
-    let invert = INVERT.as_bytes();
+fn nothing_is_taken_of_a_long_run(rt: HostRuntime) {
     let left = call(
         &rt,
         &WORDS,
@@ -116,18 +137,28 @@ fn nothing_is_taken(rt: HostRuntime) -> Result<(), Fail> {
         None,
         failing(64, 0),
         ALL,
-    )?;
-    has_left(&rt, &left, &[], "", 6)?;
-    let left = call(&rt, &[], &[], &[], Some(0), ALL, failing(64, 0))?;
-    has_left(&rt, &left, &[], "", 2)?;
-    let left = call(&rt, &WORDS, invert, &[], None, narrow(0), ALL)?;
-    has_left(&rt, &left, &[], "control done\noutput 0 of 0\n", 0)
+    );
+    has_left(&rt, &left, &[], "", 6);
+}
+
+/// Words are refused where nobody can be told.
+#[test]
+fn nothing_is_taken_of_a_refusal(rt: HostRuntime) {
+    let left = call(&rt, &[], &[], &[], Some(0), ALL, failing(64, 0));
+    has_left(&rt, &left, &[], "", 2);
+}
+
+/// An empty output is delivered where nothing is taken.
+#[test]
+fn nothing_is_taken_of_nothing(rt: HostRuntime) {
+    let left = call(&rt, &WORDS, INVERT.as_bytes(), &[], None, narrow!(0), ALL);
+    has_left(&rt, &left, &[], "control done\noutput 0 of 0\n", 0);
 }
 
 #[test]
-fn files_that_give_a_byte_a_call_are_read_whole(rt: HostRuntime) -> Result<(), Fail> {
-    let mut files = files_of(rt.alloc(), INVERT.as_bytes(), &INPUT)?;
+fn files_that_give_a_byte_a_call_are_read_whole(rt: HostRuntime) {
+    let mut files = files_of(&rt, rt.alloc(), INVERT.as_bytes(), &INPUT);
     files.most(1);
-    let left = call_through(&rt, &WORDS, files, ALL, ALL, &NoGate)?;
-    has_left(&rt, &left, &OUTPUT, REPORT, 0)
+    let left = call_through(&rt, &WORDS, files, ALL, ALL, &NoGate);
+    has_left(&rt, &left, &OUTPUT, REPORT, 0);
 }

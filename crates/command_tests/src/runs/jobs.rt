@@ -5,10 +5,9 @@
 use super::calls::{ALL, call_through};
 use super::has_left;
 use super::meeting::Meeting;
-use os_io::MemFiles;
-use std::alloc::Global;
+use os_io::{MemFiles, Memory};
+use std::alloc::{AllocError, Global};
 use std::process::Abort;
-use std::test::Fail;
 use std::thread::Threads;
 
 /// 64 activations, of which number i takes i + 1 turns. A control budget of at most 64 creates as many, and a task budget of
@@ -26,7 +25,7 @@ const PROBE: &str = r"int main(void) {
 type Job = (&'static str, &'static str, &'static str, u32, &'static str);
 
 /// The program under its name, and an empty input under its own, if that is another.
-fn files_named(alloc: Global, program: &str, input: &str) -> Result<MemFiles, Fail> {
+fn files_named(alloc: Global, program: &str, input: &str) -> Result<MemFiles, Memory> {
     let mut files = MemFiles::new(alloc);
     files.add(program, PROBE.as_bytes())?;
     if input != program {
@@ -35,19 +34,24 @@ fn files_named(alloc: Global, program: &str, input: &str) -> Result<MemFiles, Fa
     Ok(files)
 }
 
+/// The words of a line.
+fn words_in<'a>(rt: &impl Abort, alloc: Global, line: &'a str) -> Vec<&'a str> {
+    let words: Result<Vec<&'a str>, AllocError> = line.split('|').collect(alloc);
+    words.expect(rt, "memory")
+}
+
 /// Asks that the words name this job.
-fn has_job<R: Threads + Sync + AllocGlobal + Abort>(rt: &R, job: &Job) -> Result<(), Fail> {
+fn has_job<R: Threads + Sync + AllocGlobal + Abort>(rt: &R, job: &Job) {
     let (line, program, input, workers, output) = *job;
-    let words: Vec<&str> = line.split('|').collect(rt.alloc())?;
-    let files = files_named(rt.alloc(), program, input)?;
+    let words = words_in(rt, rt.alloc(), line);
+    let files = files_named(rt.alloc(), program, input).expect(rt, "memory");
     let gate = Meeting::of(workers);
-    let left = call_through(rt, &words, files, ALL, ALL, &gate)?;
+    let left = call_through(rt, &words, files, ALL, ALL, &gate);
     assert!(rt;
         left.report.as_slice().ends_with(output.as_bytes()),
         "{line}"
     );
     assert!(rt; gate.count() == workers, "{line}");
-    Ok(())
 }
 
 static JOBS: [Job; 26] = [
@@ -155,11 +159,10 @@ static JOBS: [Job; 26] = [
 ];
 
 #[test]
-fn words_name_jobs(rt: HostRuntime) -> Result<(), Fail> {
+fn words_name_jobs(rt: HostRuntime) {
     for job in &JOBS {
-        has_job(&rt, job)?;
+        has_job(&rt, job);
     }
-    Ok(())
 }
 
 /// Words of `gen`, how many workers run its blocks, and the lines.
@@ -192,19 +195,17 @@ fn has_lines<R: Threads + Sync + AllocGlobal + Abort>(
     line: &str,
     workers: u32,
     lines: &str,
-) -> Result<(), Fail> {
-    let words: Vec<&str> = line.split('|').collect(rt.alloc())?;
+) {
+    let words = words_in(rt, rt.alloc(), line);
     let gate = Meeting::of(workers);
-    let left = call_through(rt, &words, MemFiles::new(rt.alloc()), ALL, ALL, &gate)?;
-    has_left(rt, &left, lines.as_bytes(), "", 0)?;
+    let left = call_through(rt, &words, MemFiles::new(rt.alloc()), ALL, ALL, &gate);
+    has_left(rt, &left, lines.as_bytes(), "", 0);
     assert!(rt; gate.count() == workers, "{line}");
-    Ok(())
 }
 
 #[test]
-fn words_name_blocks(rt: HostRuntime) -> Result<(), Fail> {
+fn words_name_blocks(rt: HostRuntime) {
     for (line, workers, lines) in &GEN {
-        has_lines(&rt, *line, *workers, *lines)?;
+        has_lines(&rt, *line, *workers, *lines);
     }
-    Ok(())
 }

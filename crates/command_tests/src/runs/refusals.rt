@@ -3,30 +3,40 @@
 use super::calls::{ALL, call, failing};
 use super::has_left;
 use kernels::INVERT;
-use std::test::Fail;
+use std::process::Abort;
+use std::thread::Threads;
 
-#[test]
-fn a_refusal_keeps_its_status_where_the_report_stops(rt: HostRuntime) -> Result<(), Fail> {
-    for text in ["?", "int", "int main(void) { x = 1; }"] {
-        let words = ["run", "p.c", "in"];
-        let left = call(&rt, &words, text.as_bytes(), &[], None, ALL, failing(2, 1))?;
-        has_left(&rt, &left, &[], "re", 3)?;
-    }
-    Ok(())
+const WORDS: [&str; 3] = ["run", "p.c", "in"];
+
+/// Texts, each refused by another stage.
+const TEXTS: [&str; 3] = ["?", "int", "int main(void) { x = 1; }"];
+
+/// Asks that a text is refused with the status for it where two bytes of the report are taken.
+fn is_refused<R: Threads + Sync + AllocGlobal + Abort>(rt: &R, text: &str) {
+    let left = call(rt, &WORDS, text.as_bytes(), &[], None, ALL, failing(2, 1));
+    has_left(rt, &left, &[], "re", 3);
 }
 
 #[test]
-fn a_file_that_cannot_be_read_is_named(rt: HostRuntime) -> Result<(), Fail> {
-    // Each file is opened, read, and read again at its end.
-    for failed in 0..6 {
-        let told = if failed < 3 {
-            "read fault program\n"
-        } else {
-            "read fault input\n"
-        };
-        let words = ["run", "p.c", "in"];
-        let left = call(&rt, &words, INVERT.as_bytes(), &[1], Some(failed), ALL, ALL)?;
-        has_left(&rt, &left, &[], told, 5)?;
+fn a_refusal_keeps_its_status_where_the_report_stops(rt: HostRuntime) {
+    for text in TEXTS {
+        is_refused(&rt, text);
     }
-    Ok(())
+}
+
+/// Asks that this is told where a call of the files fails.
+fn is_told<R: Threads + Sync + AllocGlobal + Abort>(rt: &R, failed: u64, told: &str) {
+    let left = call(rt, &WORDS, INVERT.as_bytes(), &[1], Some(failed), ALL, ALL);
+    has_left(rt, &left, &[], told, 5);
+}
+
+/// Each file is opened, read, and read again at its end.
+#[test]
+fn a_file_that_cannot_be_read_is_named(rt: HostRuntime) {
+    for failed in 0..3 {
+        is_told(&rt, failed, "read fault program\n");
+    }
+    for failed in 3..6 {
+        is_told(&rt, failed, "read fault input\n");
+    }
 }

@@ -6,7 +6,6 @@ use super::meeting::Meeting;
 use kernels::INVERT;
 use osrun_core::Gate;
 use std::sync::atomic::{AtomicU32, Ordering};
-use std::test::Fail;
 
 /// What a gate saw: how often it was called, the workers that it was told, and the first 32 frames, each as a bit.
 #[derive(Drop)]
@@ -30,7 +29,7 @@ impl Gate for Seen {
 }
 
 #[test]
-fn two_workers_run_each_activation_once(rt: HostRuntime) -> Result<(), Fail> {
+fn two_workers_run_each_activation_once(rt: HostRuntime) {
     let seen = Seen {
         calls: AtomicU32::new(0),
         workers: Meeting::of(2),
@@ -39,11 +38,10 @@ fn two_workers_run_each_activation_once(rt: HostRuntime) -> Result<(), Fail> {
     // Eight blocks of four bytes.
     let input = [1; 32];
     let words = ["run", "p.c", "in", "--workers", "2"];
-    let files = files_of(rt.alloc(), INVERT.as_bytes(), &input)?;
-    let left = call_through(&rt, &words, files, ALL, ALL, &seen)?;
-    has_left(&rt, &left, &[254; 32], "control done\noutput 32 of 32\n", 0)?;
+    let files = files_of(&rt, rt.alloc(), INVERT.as_bytes(), &input);
+    let left = call_through(&rt, &words, files, ALL, ALL, &seen);
+    has_left(&rt, &left, &[254; 32], "control done\noutput 32 of 32\n", 0);
     assert!(rt; seen.calls.load(Ordering::SeqCst) == 8);
     assert!(rt; seen.frames.load(Ordering::SeqCst) == 0xff);
     assert!(rt; seen.workers.count() == 2);
-    Ok(())
 }

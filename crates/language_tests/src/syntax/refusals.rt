@@ -469,42 +469,27 @@ fn is_refused(
     (head, before): (&str, u32),
     (text, place): (&str, u32),
     tail: &str,
-) -> Result<(), Fail> {
-    let whole = format!(in alloc; "{head}{text}{tail}")?;
+) {
+    let whole = format!(in alloc; "{head}{text}{tail}").expect(rt, "memory");
     let found = read(alloc, &whole);
     assert!(rt; found == Some(Err(place.saturating_add(before))), "{whole}");
-    Ok(())
 }
 
 /// The text of a row is refused at its place.
-fn row_is_refused(
-    rt: &impl Abort,
-    alloc: Global,
-    head: (&str, u32),
-    row: &str,
-    tail: &str,
-) -> Result<(), Fail> {
-    let Some((place, text)) = row.split_once(" ") else {
-        return Err(Fail::from("a place and a text"));
-    };
-    let text = text.replace(alloc, "¶", "\n")?;
-    is_refused(rt, alloc, head, (&text, place.parse::<u32>()?), tail)
+fn row_is_refused(rt: &impl Abort, alloc: Global, head: (&str, u32), row: &str, tail: &str) {
+    let (place, text) = row.split_once(" ").expect(rt, "a place and a text");
+    let place = place.parse::<u32>().expect(rt, "a place");
+    let text = text.replace(alloc, "¶", "\n").expect(rt, "memory");
+    is_refused(rt, alloc, head, (&text, place), tail);
 }
 
 /// The text of each row is refused at its place.
-fn are_refused(
-    rt: &impl Abort,
-    alloc: Global,
-    head: (&str, u32),
-    rows: &str,
-    tail: &str,
-) -> Result<(), Fail> {
+fn are_refused(rt: &impl Abort, alloc: Global, head: (&str, u32), rows: &str, tail: &str) {
     for row in rows.lines() {
         if !row.starts_with("//") {
-            row_is_refused(rt, alloc, head, row, tail)?;
+            row_is_refused(rt, alloc, head, row, tail);
         }
     }
-    Ok(())
 }
 
 /// An operator between a head and a tail is refused, at 0, or what follows it, at 1.
@@ -514,20 +499,19 @@ fn operators_are_refused(
     head: (&str, u32),
     place: u32,
     tail: &str,
-) -> Result<(), Fail> {
+) {
     for operator in BETWEEN.split(" ") {
-        is_refused(rt, alloc, head, (operator, place), tail)?;
+        is_refused(rt, alloc, head, (operator, place), tail);
     }
-    Ok(())
 }
 
 #[test]
-fn a_wrong_token_is_refused(rt: HostRuntime) -> Result<(), Fail> {
-    are_refused(&rt, rt.alloc(), ("", 0), ITEMS, "")?;
-    are_refused(&rt, rt.alloc(), ("int f() { ", 5), BODIES, " }")?;
-    are_refused(&rt, rt.alloc(), ("int f() { return ", 6), VALUES, "; }")?;
-    operators_are_refused(&rt, rt.alloc(), ("int f() { return a ", 7), 1, "; }")?;
-    operators_are_refused(&rt, rt.alloc(), ("int f() { return ", 6), 0, " a; }")
+fn a_wrong_token_is_refused(rt: HostRuntime) {
+    are_refused(&rt, rt.alloc(), ("", 0), ITEMS, "");
+    are_refused(&rt, rt.alloc(), ("int f() { ", 5), BODIES, " }");
+    are_refused(&rt, rt.alloc(), ("int f() { return ", 6), VALUES, "; }");
+    operators_are_refused(&rt, rt.alloc(), ("int f() { return a ", 7), 1, "; }");
+    operators_are_refused(&rt, rt.alloc(), ("int f() { return ", 6), 0, " a; }");
 }
 
 /// One function with each production of statements and expressions.

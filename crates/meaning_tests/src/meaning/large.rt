@@ -7,7 +7,6 @@ use flow_core_laws::{Activation, Claim, ControlEnd, TaskEnd};
 use os_ast::Program;
 use std::alloc::Global;
 use std::process::Abort;
-use std::test::Fail;
 
 static KERNELS: [(&str, usize); 5] = [
     (
@@ -47,109 +46,107 @@ static KERNELS: [(&str, usize); 5] = [
 ];
 
 /// Adds so many bytes, from one on.
-fn push_bytes(inputs: &mut Vec<i32>, first: u8, count: u32) -> Result<u8, Fail> {
+fn push_bytes(rt: &impl Abort, inputs: &mut Vec<i32>, first: u8, count: u32) -> u8 {
     let mut next = first;
     for _ in 0..count {
-        inputs.push(i32::from(next))?;
+        inputs.push(i32::from(next)).expect(rt, "memory");
         next = next.wrapping_add(37);
     }
-    Ok(next)
+    next
 }
 
 /// Adds bytes for the input items of an activation.
-fn push_inputs(inputs: &mut Vec<i32>, claims: &[Claim]) -> Result<(), Fail> {
+fn push_inputs(rt: &impl Abort, inputs: &mut Vec<i32>, claims: &[Claim]) {
     let mut next: u8 = 0;
     for claim in claims {
         if !claim.write {
-            next = push_bytes(inputs, next, claim.horizon)?;
+            next = push_bytes(rt, inputs, next, claim.horizon);
         }
     }
-    Ok(())
 }
 
 /// Bytes for the input items of an activation.
-fn inputs(alloc: Global, claims: &[Claim]) -> Result<Vec<i32>, Fail> {
+fn inputs(rt: &impl Abort, alloc: Global, claims: &[Claim]) -> Vec<i32> {
     let mut inputs = Vec::new(alloc);
-    push_inputs(&mut inputs, claims)?;
-    Ok(inputs)
+    push_inputs(rt, &mut inputs, claims);
+    inputs
 }
 
 /// How many activations a program has, and how its control program ends.
 fn count_of(
+    rt: &impl Abort,
     alloc: Global,
     text: &str,
     input_len: u32,
     budget: u64,
-) -> Result<(usize, ControlEnd), Fail> {
-    let checked = accepted(alloc, text)?;
-    let control = plain_control(alloc, &checked.program, input_len, budget)?;
-    Ok((control.activations.len(), control.end))
+) -> (usize, ControlEnd) {
+    let checked = accepted(rt, alloc, text);
+    let control = plain_control(alloc, &checked.program, input_len, budget).expect(rt, "memory");
+    (control.activations.len(), control.end)
 }
 
 /// A row holds.
-fn counts_so(rt: &impl Abort, alloc: Global, row: &Counted) -> Result<(), Fail> {
+fn counts_so(rt: &impl Abort, alloc: Global, row: &Counted) {
     let (text, input_len, budget, count, end) = *row;
-    let found = count_of(alloc, text, input_len, budget)?;
+    let found = count_of(rt, alloc, text, input_len, budget);
     assert!(rt; found == (count, end), "budget {budget} of {text}");
-    Ok(())
 }
 
 /// Each row of a table holds.
-fn all_count_so(rt: &impl Abort, alloc: Global, rows: &[Counted]) -> Result<(), Fail> {
+fn all_count_so(rt: &impl Abort, alloc: Global, rows: &[Counted]) {
     for row in rows {
-        counts_so(rt, alloc, row)?;
+        counts_so(rt, alloc, row);
     }
-    Ok(())
 }
 
 #[test]
-fn activations_are_counted(rt: HostRuntime) -> Result<(), Fail> {
-    all_count_so(&rt, rt.alloc(), &COUNTED)
+fn activations_are_counted(rt: HostRuntime) {
+    all_count_so(&rt, rt.alloc(), &COUNTED);
 }
 
 /// Whether the body of an activation is done, and writes something.
-fn is_done(alloc: Global, program: &Program, activation: &Activation) -> Result<bool, Fail> {
-    let given = inputs(alloc, activation.claims.as_slice())?;
-    let (end, outputs) = plain_body(alloc, program, activation, given.as_slice(), 1_000)?;
-    Ok(end == TaskEnd::Done && !outputs.is_empty())
+fn is_done(rt: &impl Abort, alloc: Global, program: &Program, activation: &Activation) -> bool {
+    let given = inputs(rt, alloc, activation.claims.as_slice());
+    let (end, outputs) = plain_body(alloc, program, activation, given.as_slice(), 1_000).expect(
+        rt, "memory",
+    );
+    end == TaskEnd::Done && !outputs.is_empty()
 }
 
 /// Whether the bodies of all activations are done, and write something.
-fn all_done(alloc: Global, program: &Program, activations: &[Activation]) -> Result<bool, Fail> {
+fn all_done(rt: &impl Abort, alloc: Global, program: &Program, activations: &[Activation]) -> bool {
     for activation in activations {
-        if !is_done(alloc, program, activation)? {
-            return Ok(false);
+        if !is_done(rt, alloc, program, activation) {
+            return false;
         }
     }
-    Ok(true)
+    true
 }
 
 /// How many activations a program has over a thousand bytes, where it and all their bodies are done.
-fn done_of(alloc: Global, program: &Program) -> Result<Option<usize>, Fail> {
-    let control = plain_control(alloc, program, 1_000, 100_000)?;
+fn done_of(rt: &impl Abort, alloc: Global, program: &Program) -> Option<usize> {
+    let control = plain_control(alloc, program, 1_000, 100_000).expect(rt, "memory");
     let activations = control.activations.as_slice();
-    let done = control.end == ControlEnd::Done && all_done(alloc, program, activations)?;
-    Ok(done.then_some(activations.len()))
+    let done = control.end == ControlEnd::Done && all_done(rt, alloc, program, activations);
+    done.then_some(activations.len())
 }
 
 /// A kernel has so many activations over a thousand bytes, and all are done.
-fn kernel_is_done(rt: &impl Abort, alloc: Global, text: &str, count: usize) -> Result<(), Fail> {
-    let checked = accepted(alloc, text)?;
-    let found = done_of(alloc, &checked.program)?;
+fn kernel_is_done(rt: &impl Abort, alloc: Global, text: &str, count: usize) {
+    let checked = accepted(rt, alloc, text);
+    let found = done_of(rt, alloc, &checked.program);
     assert!(rt; found == Some(count), "{text}");
-    Ok(())
 }
 
 /// Each kernel has so many activations over a thousand bytes, and all are done.
-fn kernels_are_done(rt: &impl Abort, alloc: Global, kernels: &[(&str, usize)]) -> Result<(), Fail> {
+fn kernels_are_done(rt: &impl Abort, alloc: Global, kernels: &[(&str, usize)]) {
     for (text, count) in kernels {
-        kernel_is_done(rt, alloc, *text, *count)?;
+        kernel_is_done(rt, alloc, *text, *count);
     }
-    Ok(())
 }
 
 /// Each body of the kernels over a thousand bytes is done, and fills its windows.
 #[test]
-fn kernels_are_done_over_a_thousand_bytes(rt: HostRuntime) -> Result<(), Fail> {
-    kernels_are_done(&rt, rt.alloc(), &KERNELS)
+fn kernels_are_done_over_a_thousand_bytes(rt: HostRuntime) {
+    kernels_are_done(&rt, rt.alloc(), &KERNELS);
 }

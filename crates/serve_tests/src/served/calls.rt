@@ -1,9 +1,8 @@
-use os_io::{MemFiles, MemSink};
+use os_io::{MemFiles, MemSink, Memory};
 use os_serve::serve_words;
 use osrun_core::NoGate;
 use std::alloc::Global;
 use std::process::Abort;
-use std::test::Fail;
 use std::thread::Threads;
 
 /// It reverses a window of four bytes.
@@ -29,7 +28,7 @@ const DIVIDE: &str = r"int main(void) {
 const PROGRAM_LIMIT: usize = 262_144;
 
 /// The files that jobs may name: two programs, one text that is none, one that is too long, and two inputs.
-pub(super) fn small_files(alloc: Global) -> Result<MemFiles, Fail> {
+fn files(alloc: Global) -> Result<MemFiles, Memory> {
     let mut files = MemFiles::new(alloc);
     files.add("first.c", FIRST.as_bytes())?;
     files.add("in.bin", &[1, 2, 3, 4])?;
@@ -42,11 +41,15 @@ pub(super) fn small_files(alloc: Global) -> Result<MemFiles, Fail> {
     Ok(files)
 }
 
+pub(super) fn small_files(rt: &impl Abort, alloc: Global) -> MemFiles {
+    files(alloc).expect(rt, "memory")
+}
+
 /// The file `jobs`.
-pub(super) fn jobs_of(alloc: Global, jobs: &[u8]) -> Result<MemFiles, Fail> {
+pub(super) fn jobs_of(rt: &impl Abort, alloc: Global, jobs: &[u8]) -> MemFiles {
     let mut files = MemFiles::new(alloc);
-    files.add("jobs", jobs)?;
-    Ok(files)
+    files.add("jobs", jobs).expect(rt, "memory");
+    files
 }
 
 /// What a call of the server left.
@@ -57,25 +60,29 @@ pub(super) struct Left {
     pub(super) report: Vec<u8>,
 }
 
-fn words_of(alloc: Global, words: &[&str]) -> Result<Vec<String>, Fail> {
-    let mut owned = Vec::new(alloc);
-    for word in words {
-        owned.push(String::from_str(alloc, word)?)?;
-    }
-    Ok(owned)
+/// The words that ask for the server of the jobs of a file.
+pub(super) fn serving(rt: &impl Abort, alloc: Global) -> [String; 2] {
+    [
+        String::from_str(alloc, "serve").expect(rt, "memory"),
+        String::from_str(alloc, "jobs").expect(rt, "memory"),
+    ]
 }
 
-/// Calls the server with words over files of jobs and files, where the output takes so.
-pub(super) fn call<R: Threads + Sync + AllocGlobal>(
+/// A sink that takes so many bytes in all, and so many in a call.
+pub(super) fn sink(rt: &impl Abort, alloc: Global, room: u32, most: u32) -> MemSink {
+    MemSink::new(alloc, room, most).expect(rt, "memory")
+}
+
+/// Serves the jobs of a file, where the output takes so.
+pub(super) fn serve_to<R: Threads + Sync + AllocGlobal + Abort>(
     rt: &R,
-    words: &[&str],
     mut jobs: MemFiles,
     mut out: MemSink,
-) -> Result<Left, Fail> {
+) -> Left {
     let alloc = rt.alloc();
-    let words = words_of(alloc, words)?;
-    let mut files = small_files(alloc)?;
-    let mut report = MemSink::new(alloc, 64, 64)?;
+    let words = serving(rt, alloc);
+    let mut files = small_files(rt, alloc);
+    let mut report = sink(rt, alloc, 64, 64);
     let status = serve_words(
         rt,
         alloc,
@@ -86,34 +93,32 @@ pub(super) fn call<R: Threads + Sync + AllocGlobal>(
         &mut report,
         &NoGate,
     );
-    Ok(Left {
+    what_was_left(rt, alloc, status, &out, &report)
+}
+
+fn what_was_left(
+    rt: &impl Abort,
+    alloc: Global,
+    status: u8,
+    out: &MemSink,
+    report: &MemSink,
+) -> Left {
+    Left {
         status,
-        out: Vec::from_slice(alloc, out.bytes())?,
-        report: Vec::from_slice(alloc, report.bytes())?,
-    })
+        out: Vec::from_slice(alloc, out.bytes()).expect(rt, "memory"),
+        report: Vec::from_slice(alloc, report.bytes()).expect(rt, "memory"),
+    }
 }
 
-/// An output that takes whatever comes.
-pub(super) fn ample(alloc: Global) -> Result<MemSink, Fail> {
-    Ok(MemSink::new(alloc, 65_536, 65_536)?)
-}
-
-/// Serves the jobs of a file.
-pub(super) fn serve<R: Threads + Sync + AllocGlobal>(rt: &R, jobs: MemFiles) -> Result<Left, Fail> {
-    let out = ample(rt.alloc())?;
-    call(rt, &["serve", "jobs"], jobs, out)
+/// Serves the jobs of a file, where the output takes whatever comes.
+pub(super) fn serve<R: Threads + Sync + AllocGlobal + Abort>(rt: &R, jobs: MemFiles) -> Left {
+    let out = sink(rt, rt.alloc(), 65_536, 65_536);
+    serve_to(rt, jobs, out)
 }
 
 /// Asks that a call left this output, report and status.
-pub(super) fn has_left(
-    rt: &impl Abort,
-    left: &Left,
-    out: &[u8],
-    report: &str,
-    status: u8,
-) -> Result<(), Fail> {
+pub(super) fn has_left(rt: &impl Abort, left: &Left, out: &[u8], report: &str, status: u8) {
     assert!(rt; left.out.as_slice() == out);
     assert!(rt; left.report.as_slice() == report.as_bytes());
     assert!(rt; left.status == status);
-    Ok(())
 }

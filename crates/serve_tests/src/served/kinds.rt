@@ -1,16 +1,13 @@
-//! Jobs of each kind, and words that ask for a server.
+//! Jobs of each kind, where a read gives a byte. That whole files of jobs are answered so is shown by `tests/command.sh`.
 
-ghost use Rattle.std.specs.Prelude.{◌≤◌};
-
-use super::calls::{ample, call, has_left, jobs_of, serve};
+use super::calls::{has_left, jobs_of, serve};
 use std::process::Abort;
-use std::test::Fail;
 use std::thread::Threads;
 
 /// The jobs, and what is written of them.
 type Row = (&'static [u8], &'static [u8]);
 
-const ROWS: [Row; 15] = [
+static ROWS: [Row; 15] = [
     (
         b"run first.c in.bin\nstop",
         b"job 0 status 0 out 4 report 27\n\x04\x03\x02\x01control done\noutput 4 of 4\njob 1 status 2 out 0 report 6\nusage\n",
@@ -69,61 +66,22 @@ job 2 status 0 out 4 report 27\n\x04\x03\x02\x01control done\noutput 4 of 4\n",
     ),
 ];
 
-/// Asks that each row's jobs are answered so, however many bytes a read gives.
-fn has_rows<R: Threads + Sync + AllocGlobal + Abort>(
-    rt: &R,
-    rows: &[Row],
-    most: u32,
-) -> Result<(), Fail>
-    requires { 1 ≤ most }
-{
+/// Asks that a row's jobs are answered so.
+fn has_row<R: Threads + Sync + AllocGlobal + Abort>(rt: &R, jobs: &[u8], wanted: &[u8]) {
+    let mut jobs = jobs_of(rt, rt.alloc(), jobs);
+    jobs.most(1);
+    let left = serve(rt, jobs);
+    has_left(rt, &left, wanted, "", 0);
+}
+
+/// Asks that each row's jobs are answered so.
+fn has_rows<R: Threads + Sync + AllocGlobal + Abort>(rt: &R, rows: &[Row]) {
     for (jobs, wanted) in rows {
-        let mut jobs = jobs_of(rt.alloc(), jobs)?;
-        jobs.most(most);
-        let left = serve(rt, jobs)?;
-        has_left(rt, &left, wanted, "", 0)?;
+        has_row(rt, *jobs, *wanted);
     }
-    Ok(())
 }
 
 #[test]
-fn each_job_is_answered(rt: HostRuntime) -> Result<(), Fail> {
-    has_rows(&rt, &ROWS, 65_536)
-}
-
-#[test]
-fn each_job_is_answered_where_a_read_gives_a_byte(rt: HostRuntime) -> Result<(), Fail> {
-    has_rows(&rt, &ROWS, 1)
-}
-
-#[test]
-fn words_are_exactly_serve_and_a_name(rt: HostRuntime) -> Result<(), Fail> {
-    let cases: [&[&str]; 5] = [
-        &["serve"],
-        &["serve", "jobs", "more"],
-        &["serve", "--help", "jobs"],
-        &["Serve", "jobs"],
-        &[],
-    ];
-    for words in cases {
-        // The first call of a file would fail.
-        let mut jobs = jobs_of(rt.alloc(), b"run first.c in.bin\n")?;
-        jobs.fail_at(0)?;
-        let left = call(&rt, words, jobs, ample(rt.alloc())?)?;
-        has_left(&rt, &left, &[], "usage\n", 2)?;
-    }
-    Ok(())
-}
-
-#[test]
-fn other_words_are_a_command(rt: HostRuntime) -> Result<(), Fail> {
-    let words = ["run", "first.c", "in.bin"];
-    let left = call(&rt, &words, jobs_of(rt.alloc(), &[])?, ample(rt.alloc())?)?;
-    has_left(
-        &rt,
-        &left,
-        &[4, 3, 2, 1],
-        "control done\noutput 4 of 4\n",
-        0,
-    )
+fn each_job_is_answered_where_a_read_gives_a_byte(rt: HostRuntime) {
+    has_rows(&rt, &ROWS);
 }

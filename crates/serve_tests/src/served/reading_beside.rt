@@ -1,27 +1,22 @@
 //! Lines are read while a job runs.
 
-use super::calls::{ample, small_files};
+use super::calls::{serving, sink, small_files};
 use super::meeting::{Meeting, TwoLines};
-use os_io::MemSink;
 use os_serve::serve_words;
-use std::test::Fail;
 
 const ANSWERS: &[u8] =
     b"job 0 status 0 out 4 report 27\n\x04\x03\x02\x01control done\noutput 4 of 4\n\
 job 1 status 0 out 4 report 27\n\x04\x03\x02\x01control done\noutput 4 of 4\n";
 
 #[test]
-fn the_second_line_is_read_while_the_first_job_runs(rt: HostRuntime) -> Result<(), Fail> {
+fn the_second_line_is_read_while_the_first_job_runs(rt: HostRuntime) {
     let alloc = rt.alloc();
-    let words = [
-        String::from_str(alloc, "serve")?,
-        String::from_str(alloc, "jobs")?,
-    ];
+    let words = serving(&rt, alloc);
     let meeting = Meeting::new();
     let mut jobs = TwoLines::new(&meeting);
-    let mut files = small_files(alloc)?;
-    let mut out = ample(alloc)?;
-    let mut report = MemSink::new(alloc, 64, 64)?;
+    let mut files = small_files(&rt, alloc);
+    let mut out = sink(&rt, alloc, 65_536, 65_536);
+    let mut report = sink(&rt, alloc, 64, 64);
     let status = serve_words(
         &rt,
         alloc,
@@ -35,5 +30,4 @@ fn the_second_line_is_read_while_the_first_job_runs(rt: HostRuntime) -> Result<(
     assert!(rt; status == 0);
     assert!(rt; out.bytes() == ANSWERS);
     assert!(rt; meeting.was_held());
-    Ok(())
 }
