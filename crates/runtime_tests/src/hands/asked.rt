@@ -13,7 +13,7 @@ struct Case {
     asked: u64,
 }
 
-static CASES: [Case; 7] = [
+const CASES: [Case; 7] = [
     Case {
         answers: [Answer::Number, Answer::Number, Answer::Number],
         gives: Look::Frame(1),
