@@ -45,7 +45,7 @@ run() {
     status=$?
 }
 
-# bytes COUNT EXPRESSION: writes so many bytes, of which that at place k is an expression of awk. In it x runs through the
+# bytes COUNT EXPRESSION: writes COUNT bytes, of which that at place k is an expression of awk. In it x runs through the
 # numbers of a generator.
 bytes() {
     printf "$(awk "BEGIN { x = 1; for (k = 0; k < $1; k++) { x = x * 16807 % 2147483647; printf \"\\\\%03o\", int($2) } }")"
@@ -694,7 +694,7 @@ echo "worker 0 1" >by.trace
 status=$?
 : >report
 check "a full standard error for a trace that is short" 8 "" ""
-# comes_back_by WORKERS PROGRAM INPUT: traces a run by so many workers, which has to report and to end as the run does, and
+# comes_back_by WORKERS PROGRAM INPUT: traces a run by WORKERS workers, which has to report and to end as the run does, and
 # replays it, which has to write what the run writes besides.
 comes_back_by() {
     run run "$2" "$3"
@@ -915,7 +915,7 @@ status=$?
 check "a refusal and a full standard error" 3 "" ""
 
 # Each limit, at it and one past it.
-# repeat COUNT TEXT: the text so many times, with its number, from 0 on, in the place of each %.
+# repeat COUNT TEXT: the text COUNT times, with its number, from 0 on, in the place of each %.
 repeat() {
     awk -v count="$1" -v text="$2" 'BEGIN { for (k = 0; k < count; k++) { line = text; gsub(/%/, k, line); printf "%s", line } }'
 }
@@ -1051,7 +1051,7 @@ served "servers as jobs" 'serve jobs\nserve\nserve a b\n' "job 0 ${bad_words}job
 served "a line that isn't text" 'run first.c \377\nrun first.c in.bin\n' "job 0 ${bad_words}job 1 $done_in_four"
 served "a name with a byte 0" 'run first.c in.bin\000\n' 'job 0 status 5 out 0 report 17\nread fault input\n'
 served "a letter that a line feed parts" '\303\n\251' "job 0 ${bad_words}job 1 $bad_words"
-# filled NAME JOBS LAST LENGTH STATUS ANSWERS REPORT: compares what is answered to jobs with spaces behind them and a last byte, of so many bytes
+# filled NAME JOBS LAST LENGTH STATUS ANSWERS REPORT: compares what is answered to jobs with spaces behind them and a last byte, of LENGTH bytes
 # in all.
 filled() {
     { printf "%-$(($4 - 1))s" "$(printf '%b' "$2")"; printf '%b' "$3"; } >some.jobs
@@ -1463,7 +1463,7 @@ shows "elements that are poison" 1 "0 poison 10 activation 10 line 22" stream wa
 shows "elements of the output, from a position on" 1 "3 none activation 6 line 11 / 4 poison 10 activation 9 line 20" stream waits.c in.bin osout 3
 shows "elements of the input" 0 "1 2 input / 2 3 input" stream first.c in.bin osin 1 2
 shows "elements behind the last one" 0 "" stream first.c in.bin osout 4
-shows "so many elements as there are at most" 0 "" stream first.c in.bin osout 0 0
+shows "no elements where at most 0 are asked for" 0 "" stream first.c in.bin osout 0 0
 cat >negative.c <<'END'
 int main(void) {
     int s __attribute__((stream));
@@ -1728,6 +1728,34 @@ check "a program of another commit" 0 04030201 "control done / output 4 of 4"
 (cd "$work/folder" && PATH=/usr/bin:/bin "$copy/osrun" run ../first.c ../in.bin >"$work/out" 2>"$work/report")
 status=$?
 check "no toolchain" 69 "" "osrun: the command rt of the Rattle kit isn't here; README.md, \"Two commands\", says what it is for"
+
+# The man page has each status of the table in docs/COMMAND.md, with the words that stand there for it and what is told with it.
+differs=$(python3 -c 'import re, shlex, sys
+def section(name, first, last):
+    return open(sys.argv[1] + "/docs/" + name).read().split(first)[1].split(last)[0]
+def plain(line):
+    """The words of a line of the page, as they are shown."""
+    if not re.match(r"\.[BI]", line):
+        return line
+    macro, *words = shlex.split(line)
+    return ("" if macro[2:] else " ").join(words)
+page = {}
+for entry in section("man/osrun.1", ".SH \"EXIT STATUS\"\n.TP\n", ".PP\n").split(".TP\n"):
+    number, *lines = map(plain, entry.splitlines())
+    page[number] = " ".join(lines).lower()
+rows = re.findall(r"(?m)^\| (\d) \| (.*) \| (.*) \|$", re.sub(r" \(.*?\)", "", section("COMMAND.md", "## Statuses\n", "\n## ")))
+for number, comes, told in rows:
+    for words in [comes.replace("`", "")] + re.findall("`(.*?)`", told):
+        if words.lower() not in page.get(number, ""):
+            print(number, words, sep=": ", end="; ")
+if set(page) != {number for number, _, _ in rows}:
+    print("other numbers")' "$top" 2>&1)
+if [ -z "$differs" ]; then
+    passed=$((passed + 1))
+else
+    failed=$((failed + 1))
+    echo "statuses of docs/COMMAND.md that docs/man/osrun.1 tells otherwise: $differs"
+fi
 
 # The rows of tests/rows.
 counted=$("$top/tests/rows.py")
