@@ -11,7 +11,7 @@ trap 'rm -rf "$work"' EXIT
 (cd "$top/crates/oscheck" && rt run </dev/null) >/dev/null 2>&1 || true
 oscheck=$top/crates/oscheck/out/oscheck
 
-# text KIND BYTES: a program of about so many bytes.
+# text KIND BYTES: a program of about BYTES bytes.
 text() {
     awk -v kind="$1" -v bytes="$2" '
     function put(piece) { printf "%s", piece; written += length(piece) }

@@ -7,7 +7,7 @@ top=$(cd "$(dirname "${BASH_SOURCE[0]}")/.." && pwd)
 work=$(mktemp -d)
 trap 'rm -rf "$work"' EXIT
 mkdir "$work/crates"
-for crate in os_io flow_core_laws c_int os_code task_vm stream_match_layouts control_run; do
+for crate in os_io flow_core_laws c_int os_lexer os_ast os_code task_vm stream_match_layouts control_run; do
     cp -r "$top/crates/$crate" "$work/crates"
     grep -E "^$crate:" "$top/crates.txt" >>"$work/crates.txt"
 done

@@ -9,7 +9,7 @@ trap 'rm -rf "$work"' EXIT
 osrun=$top/crates/osrun/out/osrun
 runs=20
 
-# text KIND BYTES: a text of about so many bytes.
+# text KIND BYTES: a text of about BYTES bytes.
 text() {
     case $1 in
     letters) yes 'a' | tr '\n' ' ' | head -c "$2" ;;

@@ -5,7 +5,7 @@ Stack: for each way in which a program can nest to the depth of 200 that is the 
 kilobytes, with which the program is still read, compiled and run. Room: the most memory of a run whose tasks call 16 functions
 with 65,536 elements of local arrays each, as many as a program may have, by 1, 4 and 64 workers, and of one whose tasks could call
 them and don't. Turns: the seconds of a million turns
-of a loop, each of which sets a local array of so many elements to zeros."""
+of a loop, each of which sets a local array to zeros, by the number of its elements."""
 import os
 import resource
 import subprocess

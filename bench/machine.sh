@@ -10,8 +10,8 @@ top=$(cd "$(dirname "${BASH_SOURCE[0]}")/.." && pwd)
 work=$(mktemp -d)
 trap 'rm -rf "$work"' EXIT
 mkdir "$work/crates"
-for name in os_io flow_core_laws c_int os_code task_vm; do cp -r "$top/crates/$name" "$work/crates"; done
-grep -E '^(os_io|flow_core_laws|c_int|os_code|task_vm):' "$top/crates.txt" >"$work/crates.txt"
+for name in os_io flow_core_laws c_int os_lexer os_ast os_code task_vm; do cp -r "$top/crates/$name" "$work/crates"; done
+grep -E '^(os_io|flow_core_laws|c_int|os_lexer|os_ast|os_code|task_vm):' "$top/crates.txt" >"$work/crates.txt"
 echo 'machine: task_vm os_code flow_core_laws c_int os_io' >>"$work/crates.txt"
 
 machine=$work/crates/machine

@@ -68,7 +68,7 @@ def table(minutes):
 
 
 def spread(minutes, processors):
-    """The minutes of a run on so many processors: tests begin with their crate's proof, and edits end with it behind them."""
+    """The minutes of a run on `processors` processors: tests begin with their crate's proof, and edits end with it behind them."""
     below = uses()
     needs = {(crate, kind): [(it, "proof") for it in below[crate]] for crate in below for kind in KINDS}
     for crate in below:

@@ -19,13 +19,13 @@ import time
 
 TOP = os.path.dirname(os.path.dirname(os.path.abspath(__file__)))
 OSRUN = os.environ.get("OSRUN", f"{TOP}/crates/osrun/out/osrun")
-BELOW = ["os_io", "c_int", "flow_core_laws", "os_code", "os_object_validity", "os_object"]
+BELOW = ["os_io", "c_int", "flow_core_laws", "os_lexer", "os_ast", "os_code", "os_object_validity", "os_object"]
 NUMBERS = 67108864 // 4 - 2
 PUSH, DROP, JUMP, JUMP_ZERO, TURN, END, SPAWN = 0, 1, 14, 15, 16, 19, 23
 
 
 def repeated(numbers, count):
-    """Numbers, written again and again until there are so many."""
+    """Numbers, written again and again until there are `count` of them."""
     return (array.array("I", numbers) * (count // len(numbers) + 1))[:count]
 
 

@@ -109,7 +109,7 @@ def quickest(words, wanted):
 
 
 def instructions(words, count):
-    """The machine instructions of a run for each of so many activations, or `-`."""
+    """The machine instructions of a run for each of `count` activations, or `-`."""
     if not shutil.which("valgrind"):
         return "-"
     ran = subprocess.run(["valgrind", "--tool=callgrind", "--callgrind-out-file=/dev/null", *words], capture_output=True, text=True)

@@ -1,10 +1,10 @@
 #!/usr/bin/env bash
 # What an activation of a run costs by the number of workers, as two tables. For each run the microseconds an activation, the
-# least of so many times, five where no number is given: on one thread by itself (`alone`), round by round (`r1`, `r2`, `r4`) and
+# least of TIMES runs, five where no number is given: on one thread by itself (`alone`), round by round (`r1`, `r2`, `r4`) and
 # over one table (`t1`, `t2`, `t4`) by 1, 2 and 4 workers; and the machine instructions an activation over one table (`i1`, `i2`,
 # `i4`), the difference of two runs and one, where valgrind is there. In the second table the numbers of workers are 1, 4 and 64.
 #
-# An activation reads as many elements as it writes. Its body copies one of them to all of its outputs, and makes so many turns
+# An activation reads as many elements as it writes. Its body copies one of them to all of its outputs, and makes a number of turns
 # of a loop, some 2,000 to 4,000 of them a microsecond:
 #   lift       65,536 that read 4 bytes of the input each
 #   body-N     the same with one byte and N turns
@@ -85,7 +85,7 @@ row() {
     printf '\n'
 }
 
-# few COUNT: so many, or fewer.
+# few COUNT: COUNT, or fewer with the word `small`.
 few() {
     echo $((($1 + fewer - 1) / fewer))
 }

@@ -1,5 +1,5 @@
 #!/usr/bin/env bash
-# What many small jobs take, as a table: so many jobs of examples/first.c over its four bytes, in one call of `serve`, and as a process
+# What many small jobs take, as a table: a number of jobs of examples/first.c over its four bytes, in one call of `serve`, and as a process
 # each; the milliseconds in all and the microseconds a job, of the quickest of five runs, and the peak memory of the server in
 # megabytes, for a thousand jobs and for ten times as many. The words name other numbers of jobs. Each answer is compared with what it
 # should be. ./build has to have built the program.

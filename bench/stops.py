@@ -92,7 +92,7 @@ CHAIN = """int main(void) {
 }
 """
 
-# The text, and how many bytes of input so many activations read.
+# The text, and how many bytes of input a number of activations reads.
 RUNS = {
     "overlap": (OVERLAP, lambda count: count + 2),
     "pipeline": (PIPELINE, lambda count: count),

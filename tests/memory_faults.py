@@ -63,7 +63,7 @@ def requests(words, shim):
     for number in range(1, MOST):
         found = outcome(words, shim, number)
         yield number, whole, found
-        # (the last ones of a run are of threads, and change nothing: there is none behind so many)
+        # (the last ones of a run are of threads, and change nothing: none is left behind 40 of these)
         untouched = untouched + 1 if found == whole else 0
         if untouched == 40:
             return

@@ -25,7 +25,7 @@ is_zero (negsuc n) = false
 abbrev pub fitting : OperatorTrap → ℤ → Operated
 fitting trap number = if is_int number then Ok number else Err trap
 
--- `+` `-` `*` and unary `-`: the exact result, or trap 1
+-- `+` `-` `*` and unary `-`: the exact result, or the trap `Overflow`
 abbrev pub sum : ℤ → ℤ → Operated
 sum a b = fitting Overflow (a +ℤ b)
 
@@ -38,7 +38,7 @@ product a b = fitting Overflow (a *ℤ b)
 abbrev pub negation : ℤ → Operated
 negation a = fitting Overflow (neg_ℤ a)
 
--- `/` truncates toward zero. Divisor 0 is trap 2, a quotient that is no `int` trap 1.
+-- `/` truncates toward zero. Divisor 0 is the trap `DivisorZero`, a quotient that is no `int` the trap `Overflow`.
 abbrev pub quotient : ℤ → ℤ → Operated
 quotient a b = if is_zero b then Err DivisorZero else fitting Overflow (int_div a b)
 
@@ -46,7 +46,7 @@ quotient a b = if is_zero b then Err DivisorZero else fitting Overflow (int_div 
 abbrev pub remainder : ℤ → ℤ → Operated
 remainder a b = if is_zero b then Err DivisorZero else if is_int (int_div a b) then Ok (a -ℤ (int_div a b *ℤ b)) else Err Overflow
 
--- `a << n` is `a` times 2 to the n, where `a` isn't negative and the result is an `int`; else trap 3.
+-- `a << n` is `a` times 2 to the n, where `a` isn't negative and the result is an `int`; else it is the trap `Shift`.
 abbrev pub doubled : ℤ → ℕ → Operated
 doubled (pos a) n = fitting Shift (pos a *ℤ pos (2 ^ n))
 doubled (negsuc a) n = Err Shift

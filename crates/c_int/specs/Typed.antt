@@ -80,7 +80,7 @@ product unsigned a b = fitted Overflow unsigned (a *ℤ b)
 abbrev pub negation : Typed → Valued
 negation a = fitted Overflow a.unsigned (neg_ℤ a.number)
 
--- `/` truncates toward zero. Divisor 0 is trap 2; with `int`, a quotient that is no `int` is trap 1.
+-- `/` truncates toward zero. Divisor 0 is the trap `DivisorZero`; with `int`, a quotient that is no `int` is `Overflow`.
 abbrev pub quotient : Bool → ℤ → ℤ → Valued
 quotient unsigned a b = if is_zero b then Err DivisorZero else fitted Overflow unsigned (int_div a b)
 
@@ -91,7 +91,7 @@ remainder unsigned a b =
     else if is_of unsigned (int_div a b) then Ok (record { number = a -ℤ (int_div a b *ℤ b); unsigned = unsigned })
     else Err Overflow
 
--- A shift has the type of its left operand. The amount is 0 to 31, or trap 3.
+-- A shift has the type of its left operand. The amount is 0 to 31, or it is the trap `Shift`.
 abbrev pub by_amount : (ℕ → Valued) → ℤ → Valued
 by_amount shift (pos n) = if ltb n 32 then shift n else Err Shift
 by_amount shift (negsuc n) = Err Shift
@@ -99,7 +99,8 @@ by_amount shift (negsuc n) = Err Shift
 abbrev pub shifted : (Bool → ℤ → ℕ → Valued) → Typed → Typed → Valued
 shifted shift a amount = by_amount (shift a.unsigned a.number) amount.number
 
--- `a << n` is `a` times 2 to the n: modulo 2^32 with `unsigned`; with `int` trap 3 where `a` is negative or the result is no `int`.
+-- `a << n` is `a` times 2 to the n: modulo 2^32 with `unsigned`; with `int` the trap
+-- `Shift` where `a` is negative or the result is no `int`.
 abbrev pub doubled : Bool → ℤ → ℕ → Valued
 doubled unsigned (pos a) n = fitted Shift unsigned (pos a *ℤ pos (2 ^ n))
 doubled unsigned (negsuc a) n = Err Shift

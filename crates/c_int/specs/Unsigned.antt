@@ -26,7 +26,7 @@ product a b = signed ((word a * word b) % 2 ^ 32)
 abbrev pub negation : ℤ → ℤ
 negation a = signed ((2 ^ 32 - word a) % 2 ^ 32)
 
--- `/` is the quotient rounded down, `%` what it leaves; divisor 0 is trap 2.
+-- `/` is the quotient rounded down, `%` what it leaves; divisor 0 is the trap `DivisorZero`.
 abbrev pub quotient : ℤ → ℤ → Operated
 quotient a b = if word b == 0 then Err DivisorZero else Ok (signed (word a / word b))
 

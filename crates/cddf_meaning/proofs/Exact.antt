@@ -6,7 +6,7 @@ use Rattle.c_int.specs.Operators.{is_zero, truth}
 use Rattle.cddf_meaning.specs.Answers.{Answer, Left, and_then, left, with_turns, over}
 use Rattle.cddf_meaning.specs.Exact.{Spends, Stays, IsExact}
 use Rattle.cddf_meaning.specs.File.{File, variable, type_in}
-use Rattle.cddf_meaning.specs.Operators.{binary_value, unary_value}
+use Rattle.cddf_meaning.specs.Operators.{binary_answer, unary_answer}
 use Rattle.cddf_meaning.specs.BodyState.{BodyState}
 use Rattle.cddf_meaning.specs.Value.{value, place_value, values, chained, linked, call_value, as_truth, element_at, elements, scalar_value}
 use Rattle.cddf_meaning.specs.ExpressionTypes.{type_of_two}
@@ -121,8 +121,8 @@ linked-exact binary.Or line t u v right e turns =
     exact-if (is_zero v) (λ t. and_then (right t) as_truth) (λ t. Ok (left (pos 1) t)) turns
     (exact-then right as_truth turns (right turns) (e turns) truth-exact) (exact-here (pos 1) turns)
 linked-exact op line t u v right e turns =
-    exact-then right (λ b. with_turns b.turns (binary_value op line t u v b.value)) turns (right turns) (e turns)
-    (λ n. exact-with (binary_value op line t u v n.value) n.turns)
+    exact-then right (λ b. with_turns b.turns (binary_answer op line t u v b.value)) turns (right turns) (e turns)
+    (λ n. exact-with (binary_answer op line t u v n.value) n.turns)
 
 mutual
   pub value-exact : (file : File) → CallsExact file → (e : tree.ExprTree) (s : BodyState) (turns : ℕ) →
@@ -135,8 +135,8 @@ mutual
       (values-exact file calls args s turns) (λ n. call-exact file calls (variable file s f.id) n.value n.turns)
   value-exact file calls (tree.Paren e) s turns = value-exact file calls e s turns
   value-exact file calls (tree.Unary op m e) s turns =
-      exact-then (value file e s) (λ n. with_turns n.turns (unary_value op m.line (type_in file s e) n.value)) turns (value file e s turns)
-      (value-exact file calls e s turns) (λ n. exact-with (unary_value op m.line (type_in file s e) n.value) n.turns)
+      exact-then (value file e s) (λ n. with_turns n.turns (unary_answer op m.line (type_in file s e) n.value)) turns (value file e s turns)
+      (value-exact file calls e s turns) (λ n. exact-with (unary_answer op m.line (type_in file s e) n.value) n.turns)
   value-exact file calls (tree.Chain l first links) s turns =
       exact-then (value file first s) (chained file links s (type_in file s first)) turns (value file first s turns) (value-exact file calls first s turns)
       (λ n. chained-exact file calls links s (type_in file s first) n.value n.turns)

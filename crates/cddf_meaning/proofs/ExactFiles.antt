@@ -14,7 +14,7 @@ use Rattle.cddf_meaning.proofs.Exact.{CallsExact, exact-if, stays-behind, stays-
 use Rattle.cddf_meaning.proofs.ExactRuns.{all-exact}
 use Rattle.cddf_meaning.proofs.Files.{item-falls}
 
--- a body behind the unit of its call
+-- a body behind the turn of its call
 returned-exact : (f : ℕ → Answer (Left ℤ)) (g : ℕ → Ran) (turns : ℕ) (r : Ran) → f zero ≡ over → ((k : ℕ) → f (suc k) ≡ returned (g k)) →
     RunsExactly g turns r → IsExact ℤ f (suc turns) (returned r)
 returned-exact f g turns (Ended ending made) first more e =

@@ -9,7 +9,7 @@ use Rattle.cddf_meaning.specs.Exact.{Spends, IsExact, SpendsIn, RunsExactly}
 use Rattle.cddf_meaning.specs.File.{File, variable, type_in}
 use Rattle.cddf_meaning.specs.Flow.{Ran, Went, Ended, Runs, with_value, goes_on, flows, loops, left_from, left_state}
 use Rattle.cddf_meaning.specs.Moves.{Falls, CallsFall, Keeps}
-use Rattle.cddf_meaning.specs.Operators.{binary_value, step_operator}
+use Rattle.cddf_meaning.specs.Operators.{binary_answer, step_operator}
 use Rattle.cddf_meaning.specs.Run.{Around, loop, assigned, aim_at, old_value, after_store, changed, run_change, run_scalar, run_array, run_window, window_size, with_streams, run_streams, run_unsized_or, run_declarator, run_declarators, run_start, run_test, run_step, run, run_all, array_size, target_type}
 use Rattle.cddf_meaning.specs.BodyState.{BodyState, declared, stored}
 use Rattle.cddf_meaning.specs.Streams.{stream_number, first_stream, stream_count, cursor_move, burst, burst_of, joined, item_claim, items_claims, claim_of, horizon_of, run_task, run_tick, tick_turn, moved, unless_limited, with_activation, captured_by, task_number}
@@ -249,11 +249,11 @@ change-exact file calls (tree.Set t a m e) s turns =
     (value-exact file calls e s turns) (λ n. exact-with (assigned a m.line (target_type file s t) (type_in file s e) old n.value) n.turns))
     s turns
 change-exact file calls (tree.After t p m) s turns =
-    changed-exact file calls t (λ old s turns. with_turns turns (binary_value (step_operator p) m.line (target_type file s t) false old (pos 1)))
-    (λ old s turns. exact-with (binary_value (step_operator p) m.line (target_type file s t) false old (pos 1)) turns) s turns
+    changed-exact file calls t (λ old s turns. with_turns turns (binary_answer (step_operator p) m.line (target_type file s t) false old (pos 1)))
+    (λ old s turns. exact-with (binary_answer (step_operator p) m.line (target_type file s t) false old (pos 1)) turns) s turns
 change-exact file calls (tree.Before t p m) s turns =
-    changed-exact file calls t (λ old s turns. with_turns turns (binary_value (step_operator p) m.line (target_type file s t) false old (pos 1)))
-    (λ old s turns. exact-with (binary_value (step_operator p) m.line (target_type file s t) false old (pos 1)) turns) s turns
+    changed-exact file calls t (λ old s turns. with_turns turns (binary_answer (step_operator p) m.line (target_type file s t) false old (pos 1)))
+    (λ old s turns. exact-with (binary_answer (step_operator p) m.line (target_type file s t) false old (pos 1)) turns) s turns
 
 valued-exact : (file : File) → CallsExact file → (e : tree.ExprTree) (s : BodyState) (turns : ℕ) (next : Left ℤ → Ran) →
     ((n : Left ℤ) → RunsExactly (λ t. next (left n.value t)) n.turns (next n)) →

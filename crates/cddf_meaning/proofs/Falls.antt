@@ -4,7 +4,7 @@ use Rattle.c_int.specs.Operators.{is_zero}
 use Rattle.cddf_meaning.specs.Answers.{Answer, Left, and_then, left, with_turns}
 use Rattle.cddf_meaning.specs.File.{File, variable, type_in}
 use Rattle.cddf_meaning.specs.Moves.{Falls, CallsFall}
-use Rattle.cddf_meaning.specs.Operators.{binary_value, unary_value}
+use Rattle.cddf_meaning.specs.Operators.{binary_answer, unary_answer}
 use Rattle.cddf_meaning.specs.BodyState.{BodyState}
 use Rattle.cddf_meaning.specs.Value.{value, place_value, values, chained, linked, call_value, as_truth, element_at, elements}
 use Rattle.cddf_meaning.specs.ExpressionTypes.{type_of_two}
@@ -54,8 +54,8 @@ linked-falls binary.Or line u v a right f =
     falls-if (is_zero a.value) a.turns (and_then (right a.turns) as_truth) (Ok (left (pos 1) a.turns))
     (falls-then a.turns (right a.turns) as_truth (f a.turns) (λ n. same n.turns)) (same a.turns)
 linked-falls op line u v a right f =
-    falls-then a.turns (right a.turns) (λ b. with_turns b.turns (binary_value op line u v a.value b.value)) (f a.turns)
-    (λ n. falls-with n.turns (binary_value op line u v a.value n.value))
+    falls-then a.turns (right a.turns) (λ b. with_turns b.turns (binary_answer op line u v a.value b.value)) (f a.turns)
+    (λ n. falls-with n.turns (binary_answer op line u v a.value n.value))
 
 mutual
   pub value-falls : (file : File) → CallsFall file → (e : tree.ExprTree) (s : BodyState) (turns : ℕ) → Falls turns (value file e s turns)
@@ -67,8 +67,8 @@ mutual
       (call-falls file calls (variable file s f.id))
   value-falls file calls (tree.Paren e) s turns = value-falls file calls e s turns
   value-falls file calls (tree.Unary op m e) s turns =
-      falls-then turns (value file e s turns) (λ n. with_turns n.turns (unary_value op m.line (type_in file s e) n.value)) (value-falls file calls e s turns)
-      (λ n. falls-with n.turns (unary_value op m.line (type_in file s e) n.value))
+      falls-then turns (value file e s turns) (λ n. with_turns n.turns (unary_answer op m.line (type_in file s e) n.value)) (value-falls file calls e s turns)
+      (λ n. falls-with n.turns (unary_answer op m.line (type_in file s e) n.value))
   value-falls file calls (tree.Chain l first links) s turns =
       falls-then turns (value file first s turns) (chained file links s (type_in file s first)) (value-falls file calls first s turns)
       (chained-falls file calls links s (type_in file s first))

@@ -13,7 +13,7 @@ use Rattle.cddf_meaning.specs.File.{File, type_in, variable}
 use Rattle.cddf_meaning.specs.Fitting.{FileFits, GivesInt, RanFits, StateFits, bound_fits, change_fits, declarators_fit, elements_fit, index_fits, items_fit, numbers_fit, start_fits, step_fits, stmt_fits, stmts_fit, target_fits, value_fits, variable_fits}
 use Rattle.cddf_meaning.specs.Flow.{Ran, Went, Ended, Runs, flows, with_value, goes_on, left_from, loops}
 use Rattle.cddf_meaning.specs.Functions.{bind_params, call_function, empty_file, file_of, in_function, item_variable, returned, with_item, with_items}
-use Rattle.cddf_meaning.specs.Operators.{binary_value, step_operator}
+use Rattle.cddf_meaning.specs.Operators.{binary_answer, step_operator}
 use Rattle.cddf_meaning.specs.Run.{Around, after_store, aim_at, array_size, assigned, changed, loop, old_value, run, run_all, run_array, run_change, run_declarator, run_declarators, run_scalar, run_start, run_step, run_streams, run_test, run_unsized_or, run_window, target_type, window_size, with_streams}
 use Rattle.cddf_meaning.specs.BodyState.{BodyState, declared, item_elements, state_of, stored, stored_in, stored_in_at, with_element}
 use Rattle.cddf_meaning.specs.Streams.{captured_by, cursor_move, items_claims, run_task, run_tick, stream_number, task_number, tick_turn, unless_limited, with_activation}
@@ -222,12 +222,12 @@ change-fits file g (tree.Set t a m e) h =
     (λ n i. with-int n.turns (assigned a m.line (target_type file s t) (type_in file s e) old n.value)
     (assigned-int a m.line (target_type file s t) (type_in file s e) old n.value o i)))
 change-fits file g (tree.After t p m) h =
-    changed-fits file g t (λ old s turns. with_turns turns (binary_value (step_operator p) m.line (target_type file s t) false old (pos 1)))
-    (λ old s turns f o. with-int turns (binary_value (step_operator p) m.line (target_type file s t) false old (pos 1))
+    changed-fits file g t (λ old s turns. with_turns turns (binary_answer (step_operator p) m.line (target_type file s t) false old (pos 1)))
+    (λ old s turns f o. with-int turns (binary_answer (step_operator p) m.line (target_type file s t) false old (pos 1))
     (binary-int (step_operator p) m.line (target_type file s t) false old (pos 1) o refl))
 change-fits file g (tree.Before t p m) h =
-    changed-fits file g t (λ old s turns. with_turns turns (binary_value (step_operator p) m.line (target_type file s t) false old (pos 1)))
-    (λ old s turns f o. with-int turns (binary_value (step_operator p) m.line (target_type file s t) false old (pos 1))
+    changed-fits file g t (λ old s turns. with_turns turns (binary_answer (step_operator p) m.line (target_type file s t) false old (pos 1)))
+    (λ old s turns f o. with-int turns (binary_answer (step_operator p) m.line (target_type file s t) false old (pos 1))
     (binary-int (step_operator p) m.line (target_type file s t) false old (pos 1) o refl))
 
 -- declarations

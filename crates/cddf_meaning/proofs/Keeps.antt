@@ -8,7 +8,7 @@ use Rattle.cddf_meaning.specs.Claims.{limit}
 use Rattle.cddf_meaning.specs.File.{File, variable, type_in}
 use Rattle.cddf_meaning.specs.Flow.{Ran, Went, Ended, Runs, with_value, goes_on, flows, loops, left_from}
 use Rattle.cddf_meaning.specs.Moves.{Falls, CallsFall, Keeps, item_lengths}
-use Rattle.cddf_meaning.specs.Operators.{binary_value, step_operator}
+use Rattle.cddf_meaning.specs.Operators.{binary_answer, step_operator}
 use Rattle.cddf_meaning.specs.Run.{Around, loop, assigned, aim_at, old_value, after_store, changed, run_change, run_scalar, run_array, run_window, window_size, with_streams, run_streams, run_unsized_or, run_declarator, run_declarators, run_start, run_test, run_step, run, run_all, array_size, target_type}
 use Rattle.cddf_meaning.specs.BodyState.{BodyState, declared, stored, stored_in, stored_in_at, with_element}
 use Rattle.cddf_meaning.specs.Streams.{stream_number, first_stream, stream_count, cursor_move, burst, burst_of, joined, item_claim, items_claims, claim_of, horizon_of, run_task, run_tick, tick_turn, unless_limited, with_activation, captured_by, task_number}
@@ -137,11 +137,11 @@ change-keeps file calls (tree.Set t a m e) s turns =
     (value-falls file calls e s turns) (λ n. falls-with n.turns (assigned a m.line (target_type file s t) (type_in file s e) old n.value)))
     s turns
 change-keeps file calls (tree.After t p m) s turns =
-    changed-keeps file calls t (λ old s turns. with_turns turns (binary_value (step_operator p) m.line (target_type file s t) false old (pos 1)))
-    (λ old s turns. falls-with turns (binary_value (step_operator p) m.line (target_type file s t) false old (pos 1))) s turns
+    changed-keeps file calls t (λ old s turns. with_turns turns (binary_answer (step_operator p) m.line (target_type file s t) false old (pos 1)))
+    (λ old s turns. falls-with turns (binary_answer (step_operator p) m.line (target_type file s t) false old (pos 1))) s turns
 change-keeps file calls (tree.Before t p m) s turns =
-    changed-keeps file calls t (λ old s turns. with_turns turns (binary_value (step_operator p) m.line (target_type file s t) false old (pos 1)))
-    (λ old s turns. falls-with turns (binary_value (step_operator p) m.line (target_type file s t) false old (pos 1))) s turns
+    changed-keeps file calls t (λ old s turns. with_turns turns (binary_answer (step_operator p) m.line (target_type file s t) false old (pos 1)))
+    (λ old s turns. falls-with turns (binary_answer (step_operator p) m.line (target_type file s t) false old (pos 1))) s turns
 
 scalar-keeps : (file : File) → CallsFall file → (w : Bool) (id : ℕ) (first : Option tree.ExprTree) (s : BodyState) (turns : ℕ) →
     Keeps s turns (run_scalar file w id first s turns)

@@ -9,8 +9,7 @@ use Rattle.std.proofs.lemmas.Bool.Decides.{nat_tests}
 use Rattle.std.proofs.Math.Nat.{mod-le, mod-eq_of_lt}
 use native.Mathlib.Nat.{div-le_self}
 use Rattle.c_int.specs.Machine.{unary_for, binary_for, given_bits}
-use Rattle.c_int.specs.Operators.{is_int, is_zero, is_equal}
-use Rattle.c_int.specs.Operators as c_int
+use Rattle.c_int.specs.Operators.{is_int, is_zero, is_equal, unary_value, binary_value}
 use Rattle.c_int.specs.Trapping.{Operated}
 use Rattle.c_int.specs.Typed.{Typed, Valued, is_typed, is_of, is_unsigned, converted, of_type, bits, truth_value, common, fitted, in_common, quotient, remainder, by_amount, doubled, halved, unary_typed, binary_typed}
 use Rattle.c_int.specs.Unsigned.{word}
@@ -22,7 +21,7 @@ use Rattle.c_int.proofs.Conversions.{fits, same_int, reduced, again, word_of, mo
 use Rattle.c_int.proofs.Remainders.{small}
 use Rattle.c_int.proofs.TypedOperators.{one_operand, two_operands}
 use Rattle.cddf_meaning.specs.Answers.{Answer, and_then, at_line}
-use Rattle.cddf_meaning.specs.Operators.{operator_of_one, operator_of_two, unary_value, operated_by, binary_value}
+use Rattle.cddf_meaning.specs.Operators.{operator_of_one, operator_of_two, unary_answer, operated_by, binary_answer}
 use Rattle.cddf_meaning.specs.TypedValue.{element_with_type, typed_unary, typed_by, typed_binary}
 use Rattle.cddf_meaning.specs.ExpressionTypes.{type_of_one, type_of_two}
 use Rattle.os_ast.specs.declared.expr.Binary.TheVariants as binary
@@ -179,25 +178,25 @@ int-given line (Err trap) q e = rw e tt
 
 -- the operators between values with these bits, and those on the bits
 bits_one : (op : int_unary.Unary) (u : Bool) (x : ℤ) → is_int x ≡ true →
-    c_int.unary_value (unary_for u op) x ≡ given_bits (unary_typed op (of_type u x))
-bits_one op u x h = ap (c_int.unary_value (unary_for u op)) (sym (bits_stay u x h)) ∙ one_operand op (of_type u x) (converted_is u x)
+    unary_value (unary_for u op) x ≡ given_bits (unary_typed op (of_type u x))
+bits_one op u x h = ap (unary_value (unary_for u op)) (sym (bits_stay u x h)) ∙ one_operand op (of_type u x) (converted_is u x)
 
 bits_two : (op : int_binary.Binary) (u v : Bool) (x y : ℤ) → is_int x ≡ true → is_int y ≡ true →
-    c_int.binary_value (binary_for u v op) x y ≡ given_bits (binary_typed op (of_type u x) (of_type v y))
+    binary_value (binary_for u v op) x y ≡ given_bits (binary_typed op (of_type u x) (of_type v y))
 bits_two op u v x y h k =
-    ap (λ z. c_int.binary_value (binary_for u v op) z y) (sym (bits_stay u x h))
-    ∙ ap (c_int.binary_value (binary_for u v op) (converted false (converted u x))) (sym (bits_stay v y k))
+    ap (λ z. binary_value (binary_for u v op) z y) (sym (bits_stay u x h))
+    ∙ ap (binary_value (binary_for u v op) (converted false (converted u x))) (sym (bits_stay v y k))
     ∙ two_operands op (of_type u x) (of_type v y) (converted_is u x) (converted_is v y)
 
 pub unary-agrees : (op : Unary) (line : ℕ) (u : Bool) (x : ℤ) → is_int x ≡ true →
-    typed_unary op line (of_type u x) ≡ and_then (unary_value op line u x) (element_with_type (type_of_one op u))
+    typed_unary op line (of_type u x) ≡ and_then (unary_answer op line u x) (element_with_type (type_of_one op u))
 unary-agrees op line u x h =
-    agree (type_of_one op u) line (unary_typed (operator_of_one op) (of_type u x)) (c_int.unary_value (unary_for u (operator_of_one op)) x)
+    agree (type_of_one op u) line (unary_typed (operator_of_one op) (of_type u x)) (unary_value (unary_for u (operator_of_one op)) x)
     (bits_one (operator_of_one op) u x h) (one-is op (of_type u x) (converted_is u x))
 
-pub unary-int : (op : Unary) (line : ℕ) (u : Bool) (x : ℤ) → is_int x ≡ true → IntAnswer (unary_value op line u x)
+pub unary-int : (op : Unary) (line : ℕ) (u : Bool) (x : ℤ) → is_int x ≡ true → IntAnswer (unary_answer op line u x)
 unary-int op line u x h =
-    int-given line (unary_typed (operator_of_one op) (of_type u x)) (c_int.unary_value (unary_for u (operator_of_one op)) x)
+    int-given line (unary_typed (operator_of_one op) (of_type u x)) (unary_value (unary_for u (operator_of_one op)) x)
     (bits_one (operator_of_one op) u x h)
 
 by-agrees : (o : Option int_binary.Binary) (w : Bool) (line : ℕ) (u v : Bool) (x y : ℤ) → is_int x ≡ true → is_int y ≡ true →
@@ -205,13 +204,13 @@ by-agrees : (o : Option int_binary.Binary) (w : Bool) (line : ℕ) (u v : Bool) 
     typed_by o line (of_type u x) (of_type v y) ≡ and_then (operated_by o line u v x y) (element_with_type w)
 by-agrees None w line u v x y h k n g = sym (ap (λ t. Ok (of_type t (pos 0))) (n refl))
 by-agrees (Some op) w line u v x y h k n g =
-    agree w line (binary_typed op (of_type u x) (of_type v y)) (c_int.binary_value (binary_for u v op) x y) (bits_two op u v x y h k) g
+    agree w line (binary_typed op (of_type u x) (of_type v y)) (binary_value (binary_for u v op) x y) (bits_two op u v x y h k) g
 
 by-int : (o : Option int_binary.Binary) (line : ℕ) (u v : Bool) (x y : ℤ) → is_int x ≡ true → is_int y ≡ true →
     IntAnswer (operated_by o line u v x y)
 by-int None line u v x y h k = refl
 by-int (Some op) line u v x y h k =
-    int-given line (binary_typed op (of_type u x) (of_type v y)) (c_int.binary_value (binary_for u v op) x y) (bits_two op u v x y h k)
+    int-given line (binary_typed op (of_type u x) (of_type v y)) (binary_value (binary_for u v op) x y) (bits_two op u v x y h k)
 
 no-operator : (op : Binary) (u v : Bool) → is_none (operator_of_two op) ≡ true → type_of_two op u v ≡ false
 no-operator binary.Or u v h = refl
@@ -219,9 +218,9 @@ no-operator binary.And u v h = refl
 no-operator op u v h = absurd (cc)
 
 pub binary-agrees : (op : Binary) (line : ℕ) (u v : Bool) (x y : ℤ) → is_int x ≡ true → is_int y ≡ true →
-    typed_binary op line (of_type u x) (of_type v y) ≡ and_then (binary_value op line u v x y) (element_with_type (type_of_two op u v))
+    typed_binary op line (of_type u x) (of_type v y) ≡ and_then (binary_answer op line u v x y) (element_with_type (type_of_two op u v))
 binary-agrees op line u v x y h k =
     by-agrees (operator_of_two op) (type_of_two op u v) line u v x y h k (no-operator op u v) (two-is op (of_type u x) (of_type v y) (converted_is u x))
 
-pub binary-int : (op : Binary) (line : ℕ) (u v : Bool) (x y : ℤ) → is_int x ≡ true → is_int y ≡ true → IntAnswer (binary_value op line u v x y)
+pub binary-int : (op : Binary) (line : ℕ) (u v : Bool) (x y : ℤ) → is_int x ≡ true → is_int y ≡ true → IntAnswer (binary_answer op line u v x y)
 binary-int op line u v x y h k = by-int (operator_of_two op) line u v x y h k

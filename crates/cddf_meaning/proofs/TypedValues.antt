@@ -13,7 +13,7 @@ use Rattle.c_int.proofs.Conversions.{is_int_signed, modulo, same_int, same_unsig
 use Rattle.cddf_meaning.specs.Answers.{Answer, Left, and_then, left, with_turns}
 use Rattle.cddf_meaning.specs.File.{File, flags, or_in_file, type_in, variable}
 use Rattle.cddf_meaning.specs.Fitting.{FileFits, GivesInt, StateFits, args_fit, bound_fits, elements_fit, links_fit, numbers_fit, target_fits, variable_fits}
-use Rattle.cddf_meaning.specs.Operators.{binary_value, unary_value}
+use Rattle.cddf_meaning.specs.Operators.{binary_answer, unary_answer}
 use Rattle.cddf_meaning.specs.BodyState.{BodyState, item_elements}
 use Rattle.cddf_meaning.specs.TypedValue.{as_type, element_with_type, passed, typed_binary, typed_chained, typed_linked, typed_place, typed_truth, typed_unary, typed_value, with_type}
 use Rattle.cddf_meaning.specs.ExpressionTypes.{type_behind, type_of_one, type_of_two}
@@ -94,9 +94,9 @@ linked-agrees binary.Or line u v n right right' h f =
     (then-agrees v false (right n.turns) (right' n.turns) typed_truth as_truth (f n.turns) (truth-agrees v)) (truth-as true n.turns)
 linked-agrees op line u v n right right' h f =
     then-agrees v (type_of_two op u v) (right n.turns) (right' n.turns)
-    (λ b. with_turns b.turns (typed_binary op line (of_type u n.value) b.value)) (λ b. with_turns b.turns (binary_value op line u v n.value b.value))
+    (λ b. with_turns b.turns (typed_binary op line (of_type u n.value) b.value)) (λ b. with_turns b.turns (binary_answer op line u v n.value b.value))
     (f n.turns)
-    (λ m k. turns-agrees (type_of_two op u v) (typed_binary op line (of_type u n.value) (of_type v m.value)) (binary_value op line u v n.value m.value) m.turns
+    (λ m k. turns-agrees (type_of_two op u v) (typed_binary op line (of_type u n.value) (of_type v m.value)) (binary_answer op line u v n.value m.value) m.turns
     (binary-agrees op line u v n.value m.value h k) (binary-int op line u v n.value m.value h k))
 
 -- A conversion behind another one: the bits stay.
@@ -258,10 +258,10 @@ mutual
   value-agrees file f (tree.Paren e) s g h turns = value-agrees file f e s g h turns
   value-agrees file f (tree.Unary op m e) s g h turns =
       then-agrees (type_in file s e) (type_of_one op (type_in file s e)) (typed_value file e s turns) (value file e s turns)
-      (λ n. with_turns n.turns (typed_unary op m.line n.value)) (λ n. with_turns n.turns (unary_value op m.line (type_in file s e) n.value))
+      (λ n. with_turns n.turns (typed_unary op m.line n.value)) (λ n. with_turns n.turns (unary_answer op m.line (type_in file s e) n.value))
       (value-agrees file f e s g h turns)
       (λ n i. turns-agrees (type_of_one op (type_in file s e)) (typed_unary op m.line (of_type (type_in file s e) n.value))
-      (unary_value op m.line (type_in file s e) n.value) n.turns (unary-agrees op m.line (type_in file s e) n.value i)
+      (unary_answer op m.line (type_in file s e) n.value) n.turns (unary-agrees op m.line (type_in file s e) n.value i)
       (unary-int op m.line (type_in file s e) n.value i))
   value-agrees file f (tree.Chain l first links) s g h turns =
       let fits = both (numbers_fit first) (links_fit links) h in

@@ -3,7 +3,7 @@ use Rattle.std.proofs.Common.{◌≡◌, ℕ, ◌+◌, ◌≤◌, Bool, true, fa
 use Rattle.std.proofs.lemmas.List.{length-take, length-drop, length-replicate}
 use Rattle.c_int.specs.Traps.{trap_code}
 use Rattle.c_int.specs.declared.trap.Trap.TheVariants.{NoByte}
-use Rattle.cddf_meaning.specs.Body.{item_lists, outputs_of, outcome, task_outcome, bound_round, gives_bytes, done, trapped}
+use Rattle.cddf_meaning.specs.Body.{item_lists, outputs_of, outcome, task_outcome, bound_round, gives_bytes, done}
 use Rattle.cddf_meaning.specs.Flow.{Ran, Went, Ended}
 use Rattle.cddf_meaning.specs.Functions.{file_of, in_function}
 use Rattle.cddf_meaning.specs.Moves.{Keeps, item_lengths, read_horizons, written_horizons}
@@ -11,6 +11,7 @@ use Rattle.cddf_meaning.specs.Run.{run}
 use Rattle.cddf_meaning.specs.BodyState.{BodyState, state_of}
 use Rattle.cddf_meaning.specs.Tasks.{Task}
 use Rattle.cddf_meaning.specs.declared.ending.Ending.TheVariants.{Trapped, OverBudget, Limited}
+use Rattle.flow_core_laws.specs.Outcome.{trapped}
 use Rattle.flow_core_laws.specs.declared.activation.Activation.{Activation}
 use Rattle.flow_core_laws.specs.declared.claim.Claim.{Claim}
 use Rattle.flow_core_laws.specs.declared.task_end.TaskEnd.TheVariants as end

@@ -18,7 +18,7 @@ use Rattle.cddf_meaning.specs.declared.typed_name.TypedName.{TypedName}
 use Rattle.cddf_meaning.specs.declared.variable.Binding.{Binding}
 use Rattle.cddf_meaning.specs.declared.variable.Variable.TheVariants.{Scalar, Item}
 use Rattle.flow_core_laws.specs.Byte.{is_byte}
-use Rattle.flow_core_laws.specs.Outcome.{outcome_of}
+use Rattle.flow_core_laws.specs.Outcome.{outcome_of, trapped, over_budget}
 use Rattle.flow_core_laws.specs.declared.activation.Activation.{Activation}
 use Rattle.flow_core_laws.specs.declared.claim.Claim.{Claim}
 use Rattle.flow_core_laws.specs.declared.outcome.Outcome.{Outcome}
@@ -64,14 +64,7 @@ gives_bytes _ _ = true
 abbrev pub done : List ℤ → Outcome
 done outputs = outcome_of end.Done outputs
 
--- A body that doesn't end normally writes nothing.
-abbrev pub trapped : (code line : ℕ) → Outcome
-trapped code line = outcome_of (end.Trapped code line) []
-
-abbrev pub over_budget : Outcome
-over_budget = outcome_of end.OverBudget []
-
--- A body that ended normally is done where each element that goes to `osout` is a byte; else it is trap 5, with the line
+-- A body that ended normally is done where each element that goes to `osout` is a byte; else it is the trap `NoByte`, with the line
 -- of the pragma. `return` stands in no task, `break` and `continue` in its loops alone, and a task meets no limit.
 abbrev pub outcome : (line : ℕ) → List Claim → Ran → Outcome
 outcome line claims (Went flow s turns) = if gives_bytes claims s.items then done (outputs_of claims s.items) else trapped (trap_code NoByte) line

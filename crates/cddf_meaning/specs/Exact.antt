@@ -28,7 +28,7 @@ abbrev pub IsExact : (A : Type 0) → (ℕ → Answer (Left A)) → ℕ → Answ
 IsExact A evaluate turns (Ok n) = Spends A evaluate turns n
 IsExact A evaluate turns (Err ending) = Stays evaluate turns ending (Err ending)
 
--- the same of a statement, which leaves a state behind it
+-- a statement that leaves a state spends some of its turns as such an evaluation does
 pub record SpendsIn (run : ℕ → Ran) (turns : ℕ) (flow : Flow) (behind : BodyState) (rest : ℕ) : Type 0 where
   pub spent : ℕ
   pub all : turns ≡ spent + rest

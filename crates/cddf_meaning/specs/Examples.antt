@@ -6,7 +6,7 @@ use Rattle.flow_core_laws.specs.declared.control.Control.{Control}
 use Rattle.flow_core_laws.specs.declared.control.ControlEnd.TheVariants as end
 use Rattle.os_ast.specs.declared.names.Direction.TheVariants as direction
 
--- a block of so many bytes of the input, as captured and claimed
+-- the activation of a block of `n` bytes: it captures `n`, and claims `n` elements of the input and of the output
 abbrev pub inverted_block : ℕ → Activation
 inverted_block n = record { site = 0; captured = pos n ∷ []; claims = claim_of direction.Reads 0 n n ∷ claim_of direction.Writes 1 n n ∷ [] }
 

@@ -122,7 +122,7 @@ items_fit [] = true
 items_fit (tree.Constant c ∷ is) = items_fit is
 items_fit (tree.Function f ∷ is) = stmts_fit f.body && items_fit is
 
--- what is returned
+-- what a `return` returns is an `int`
 abbrev pub FlowFits : Flow → Type 0
 FlowFits (Returns v) = is_int v ≡ true
 FlowFits GoesOn = ⊤

@@ -12,7 +12,7 @@ use Rattle.cddf_meaning.specs.declared.variable.Binding.{Binding}
 use Rattle.cddf_meaning.specs.declared.variable.Variable.{Variable}
 use Rattle.cddf_meaning.specs.declared.variable.Variable.TheVariants.{Constant, Function, Scalar}
 use Rattle.os_ast.specs.Names.{constant_value}
-use Rattle.os_ast.specs.Notes.Programs.{param_list}
+use Rattle.os_ast.specs.Notes.Programs.{param_list, global_id}
 use Rattle.os_ast.specs.Trees as tree
 use Rattle.os_ast.specs.Unsigned.{is_unsigned}
 use Rattle.os_ast.specs.declared.program.Param.{Param}
@@ -38,14 +38,10 @@ bind_params (p ∷ ps) (v ∷ vs) bound = bind_params ps vs (bind p.name.id (is_
 abbrev pub in_function : File → Around
 in_function file = record { file = file; is_control = false; sites = [] }
 
--- A call takes a unit behind its arguments, and runs the body with the parameters set.
+-- A call takes a turn behind its arguments, and runs the body with the parameters set.
 abbrev pub call_function : File → tree.FunctionTree → List ℤ → ℕ → Answer (Left ℤ)
 call_function file f args zero = over
 call_function file f args (suc turns) = returned (run_all (in_function file) f.body (state_of (bind_params (param_list f.params) args []) []) turns)
-
-abbrev pub item_id : tree.ItemTree → ℕ
-item_id (tree.Constant c) = c.name.id
-item_id (tree.Function f) = f.name.id
 
 -- whether the constant, or the function's result, is of the type `unsigned`
 abbrev pub item_unsigned : tree.ItemTree → Bool
@@ -64,7 +60,7 @@ calls_with file (tree.Function f) = λ n args turns. if n == file.count then cal
 -- The file with one more item. A constant or a function is in scope behind it.
 abbrev pub with_item : File → tree.ItemTree → File
 with_item file i =
-    record { names = bind (item_id i) (item_unsigned i) (item_variable file.count i) file.names; count = file.count + 1; calls = calls_with file i }
+    record { names = bind (global_id i) (item_unsigned i) (item_variable file.count i) file.names; count = file.count + 1; calls = calls_with file i }
 
 abbrev pub with_items : File → List tree.ItemTree → File
 with_items file is = fold with_item file is

@@ -2,7 +2,7 @@
 use Rattle.std.specs.Prelude.{ℕ, Bool, ℤ, pos, Option, Some, None, Ok}
 use Rattle.std.specs.Option.{option_map_or}
 use Rattle.c_int.specs.Machine.{unary_for, binary_for}
-use Rattle.c_int.specs.Operators as c_int
+use Rattle.c_int.specs.Operators.{unary_value, binary_value}
 use Rattle.c_int.specs.declared.operators.Binary as int_binary
 use Rattle.c_int.specs.declared.operators.Binary.TheVariants as two
 use Rattle.c_int.specs.declared.operators.Unary as int_unary
@@ -42,16 +42,16 @@ operator_of_two binary.Remainder = Some two.Remainder
 operator_of_two _ = None
 
 -- what an operator with one operand gives, by the type of the operand
-abbrev pub unary_value : Unary → ℕ → Bool → ℤ → Answer ℤ
-unary_value op line unsigned a = at_line line (c_int.unary_value (unary_for unsigned (operator_of_one op)) a)
+abbrev pub unary_answer : Unary → ℕ → Bool → ℤ → Answer ℤ
+unary_answer op line unsigned a = at_line line (unary_value (unary_for unsigned (operator_of_one op)) a)
 
 -- `&&` and `||` have no operator of numbers; they are evaluated elsewhere.
 abbrev pub operated_by : Option int_binary.Binary → ℕ → (left right : Bool) → ℤ → ℤ → Answer ℤ
-operated_by op line left right a b = option_map_or (λ op. at_line line (c_int.binary_value (binary_for left right op) a b)) op (Ok (pos 0))
+operated_by op line left right a b = option_map_or (λ op. at_line line (binary_value (binary_for left right op) a b)) op (Ok (pos 0))
 
 -- what an operator with two operands gives that are both evaluated, by their types
-abbrev pub binary_value : Binary → ℕ → (left right : Bool) → ℤ → ℤ → Answer ℤ
-binary_value op line left right a b = operated_by (operator_of_two op) line left right a b
+abbrev pub binary_answer : Binary → ℕ → (left right : Bool) → ℤ → ℤ → Answer ℤ
+binary_answer op line left right a b = operated_by (operator_of_two op) line left right a b
 
 -- `++` adds 1, and `--` takes 1, in the type of the target: 1 is an `int`.
 abbrev pub step_operator : Step → Binary

@@ -8,7 +8,7 @@ use Rattle.c_int.specs.declared.trap.Trap.TheVariants.{WindowSize}
 use Rattle.cddf_meaning.specs.Answers.{Answer, passing, and_then, Left, left, with_turns}
 use Rattle.cddf_meaning.specs.File.{File, variable, flags, type_in}
 use Rattle.cddf_meaning.specs.Flow.{Went, Ended, Runs, with_value, goes_on, flows, loops, left_from}
-use Rattle.cddf_meaning.specs.Operators.{binary_value, step_operator}
+use Rattle.cddf_meaning.specs.Operators.{binary_answer, step_operator}
 use Rattle.cddf_meaning.specs.BodyState.{BodyState, declared, stored, stored_at}
 use Rattle.cddf_meaning.specs.Streams.{run_task, run_tick, task_number}
 use Rattle.cddf_meaning.specs.declared.site.Site.{Site}
@@ -33,8 +33,8 @@ pub record Around : Type 0 where
   pub is_control : Bool
   pub sites : List Site
 
--- A loop takes a unit, evaluates its condition, and runs its body and its step, over and over. C11, 6.8.5. Each time it
--- takes a unit, so that `most` never runs out before the turns, where it is as large as they are at first.
+-- A loop takes a turn, evaluates its condition, and runs its body and its step, over and over. C11, 6.8.5. Each time it
+-- takes a turn, so that `most` never runs out before the turns, where it is as large as they are at first.
 abbrev pub loop : ℕ → (BodyState → ℕ → Answer (Left ℤ)) → Runs → Runs → Runs
 loop most test body step s zero = Ended OverBudget s.activations
 loop zero test body step s (suc turns) = Ended OverBudget s.activations
@@ -45,7 +45,7 @@ loop (suc most) test body step s (suc turns) = with_value (test s turns) s
 -- the right side. A conversion to the type of the target keeps the bits.
 abbrev pub assigned : Assign → ℕ → (target right : Bool) → ℤ → ℤ → Answer ℤ
 assigned assign_of.Plain line target right old new = Ok new
-assigned (assign_of.With op) line target right old new = binary_value op line target right old new
+assigned (assign_of.With op) line target right old new = binary_answer op line target right old new
 
 -- The target of a change: its index is evaluated, and checked with the line of its `[`.
 abbrev pub aim_at : File → tree.TargetTree → BodyState → ℕ → Answer (Left Aim)
@@ -77,9 +77,9 @@ abbrev pub run_change : File → tree.ChangeTree → Runs
 run_change file (tree.Set t a m e) = changed file t (λ old s turns. and_then (value file e s turns)
     (λ n. with_turns n.turns (assigned a m.line (target_type file s t) (type_in file s e) old n.value)))
 run_change file (tree.After t p m) =
-    changed file t (λ old s turns. with_turns turns (binary_value (step_operator p) m.line (target_type file s t) false old (pos 1)))
+    changed file t (λ old s turns. with_turns turns (binary_answer (step_operator p) m.line (target_type file s t) false old (pos 1)))
 run_change file (tree.Before t p m) =
-    changed file t (λ old s turns. with_turns turns (binary_value (step_operator p) m.line (target_type file s t) false old (pos 1)))
+    changed file t (λ old s turns. with_turns turns (binary_answer (step_operator p) m.line (target_type file s t) false old (pos 1)))
 
 -- A scalar is 0 from its declarator on, also while its own first value is evaluated. What is declared is of the type of its
 -- declaration.
@@ -97,7 +97,7 @@ abbrev pub run_array : File → Bool → ℕ → tree.ExprTree → Runs
 run_array file unsigned id size s turns =
     with_value (value file size s turns) s (λ n. goes_on (declared id unsigned (Array (replicate (array_size n.value) (pos 0))) s) n.turns)
 
--- The size of a window is 1 to 65,536; else it is trap 6, with the line of its `[`.
+-- The size of a window is 1 to 65,536; else it is the trap `WindowSize`, with the line of its `[`.
 abbrev pub window_size : ℕ → ℤ → Answer ℕ
 window_size line v = passing (λ n. leb 1 n && leb n horizon_limit) WindowSize line v
 

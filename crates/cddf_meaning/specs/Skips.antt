@@ -4,15 +4,15 @@ use Rattle.cddf_meaning.specs.declared.cursor_move.Move.{Move}
 use Rattle.cddf_meaning.specs.declared.cursor_move.Move.TheVariants.{Take, Tick}
 use Rattle.flow_core_laws.specs.declared.claim.Claim.{Claim}
 
--- behind a tick
+-- what ticks took, behind one more tick
 abbrev pub ticked : List ℕ → ℕ → ℕ → List ℕ
 ticked skips stream amount = set skips stream (get_or skips stream 0 + amount)
 
--- behind a claim
+-- what ticks took, behind a claim
 abbrev pub skips_behind : List ℕ → Claim → List ℕ
 skips_behind skips c = if c.write then skips else set skips c.stream 0
 
--- behind some moves on so many streams, the last move first
+-- what ticks took from `streams` streams behind some moves, the last move first
 abbrev pub skips_of : ℕ → List Move → List ℕ
 skips_of streams [] = replicate streams 0
 skips_of streams (Tick stream amount ∷ before) = ticked (skips_of streams before) stream amount

@@ -34,17 +34,17 @@ abbrev pub stream_count : Option Variable → ℕ
 stream_count (Some (Stream first count)) = count
 stream_count _ = 0
 
--- the stream of an item or a tick; an index that the array doesn't have is trap 4, with the line of the `[`
+-- the stream of an item or a tick; an index that the array doesn't have is the trap `Index`, with the line of the `[`
 abbrev pub stream_number : File → tree.TargetTree → BodyState → ℕ → Answer (Left ℕ)
 stream_number file (tree.Variable n) s turns = Ok (left (first_stream (find s.bound n.id)) turns)
 stream_number file (tree.Element n m e) s turns = let v = find s.bound n.id in
     and_then (value file e s turns) (λ i. and_then (checked (stream_count v) m.line i.value) (λ k. Ok (left (first_stream v + k) i.turns)))
 
--- The burst of an input item, or the amount of a tick, is 0 to 65,536; else it is trap 7.
+-- The burst of an input item, or the amount of a tick, is 0 to 65,536; else it is the trap `Move`.
 abbrev pub cursor_move : ℕ → ℤ → Answer ℕ
 cursor_move line v = passing (λ n. leb n move_limit) Move line v
 
--- The burst of an output window is its horizon; else it is trap 8.
+-- The burst of an output window is its horizon; else it is the trap `OutputBurst`.
 abbrev pub output_burst : (line horizon : ℕ) → ℤ → Answer ℕ
 output_burst line horizon v = passing (λ n. n == horizon) OutputBurst line v
 
@@ -122,12 +122,12 @@ run_task file sites (Some number) ps s turns = with_value (items_claims file ps 
 abbrev pub moved : ℕ → ℕ → BodyState → BodyState
 moved stream amount s = record s { moves = Tick stream amount ∷ s.moves }
 
--- the unit of a tick, behind its amount
+-- the turn of a tick, behind its amount
 abbrev pub tick_turn : ℕ → ℕ → BodyState → ℕ → Ran
 tick_turn stream amount s zero = Ended OverBudget s.activations
 tick_turn stream amount s (suc turns) = goes_on (moved stream amount s) turns
 
--- A tick: first the stream's index, then the amount, which is checked with the line of the `>>`, then a unit.
+-- A tick: first the stream's index, then the amount, which is checked with the line of the `>>`, then a turn.
 abbrev pub run_tick : File → tree.TargetTree → Mark → tree.ExprTree → BodyState → ℕ → Ran
 run_tick file stream arrow e s turns = with_value (stream_number file stream s turns) s
     (λ n. with_value (value file e s n.turns) s (λ v. with_value (cursor_move arrow.line v.value) s (λ amount. tick_turn n.value amount s v.turns)))

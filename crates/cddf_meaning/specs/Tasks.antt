@@ -1,12 +1,12 @@
 -- The tasks of a program, in the order of the text, found by names alone.
 use Rattle.std.specs.Prelude.{ℕ, ◌==◌, ◌&&◌, Bool, true, false, not, is_none, if◌then◌else◌, List, [], ◌∷◌, ◌++◌, map, filter, fold}
-use Rattle.cddf_meaning.specs.Functions.{item_id, item_unsigned}
+use Rattle.cddf_meaning.specs.Functions.{item_unsigned}
 use Rattle.cddf_meaning.specs.declared.known_name.KnownName.{KnownName}
 use Rattle.cddf_meaning.specs.declared.site.Site.{Site}
 use Rattle.cddf_meaning.specs.declared.typed_name.TypedName.{TypedName}
 use Rattle.os_ast.specs.FreeNames.{task_names}
 use Rattle.os_ast.specs.Names.{osin_id, osout_id, osin_len_id}
-use Rattle.os_ast.specs.Notes.Programs.{param_list}
+use Rattle.os_ast.specs.Notes.Programs.{param_list, global_id}
 use Rattle.os_ast.specs.ClauseParts.{ClausePart, is_in, item_ids, parts}
 use Rattle.os_ast.specs.Trees as tree
 use Rattle.os_ast.specs.Unsigned.{is_unsigned}
@@ -47,7 +47,7 @@ known_behind (tree.While c a) = known_behind a
 known_behind _ = []
 
 abbrev pub known_item : tree.ItemTree → KnownName
-known_item i = known (item_id i) false (item_unsigned i)
+known_item i = known (global_id i) false (item_unsigned i)
 
 abbrev pub known_param : Param → KnownName
 known_param p = known p.name.id true (is_unsigned p.ty)
@@ -57,7 +57,7 @@ abbrev pub known_in_main : List tree.ItemTree → tree.FunctionTree → List Kno
 known_in_main items f = map known_item items
     ++ (known osin_id false false ∷ known osout_id false false ∷ known osin_len_id true false ∷ map known_param (param_list f.params))
 
--- other names
+-- the names of a list but for one
 abbrev pub others : ℕ → List ℕ → List ℕ
 others id [] = []
 others id (i ∷ is) = if i == id then others id is else i ∷ others id is
@@ -69,7 +69,7 @@ with_known ids k = others k.id ids ++ (if k.scalar then k.id ∷ [] else [])
 abbrev pub with_all_known : List ℕ → List KnownName → List ℕ
 with_all_known ids ks = fold with_known ids ks
 
--- those of a list that are among these
+-- the names in `ids` that are among `names`
 abbrev pub among : List ℕ → List ℕ → List ℕ
 among names ids = filter (λ id. is_in id names) ids
 

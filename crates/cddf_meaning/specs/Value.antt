@@ -6,7 +6,7 @@ use Rattle.c_int.specs.Operators.{is_zero, truth}
 use Rattle.c_int.specs.declared.trap.Trap.TheVariants.{Index}
 use Rattle.cddf_meaning.specs.Answers.{Answer, Left, passing, and_then, left, with_turns}
 use Rattle.cddf_meaning.specs.File.{Calls, File, variable, type_in}
-use Rattle.cddf_meaning.specs.Operators.{binary_value, unary_value}
+use Rattle.cddf_meaning.specs.Operators.{binary_answer, unary_answer}
 use Rattle.cddf_meaning.specs.BodyState.{BodyState, item_elements}
 use Rattle.cddf_meaning.specs.ExpressionTypes.{type_of_two}
 use Rattle.cddf_meaning.specs.Variables.{find}
@@ -29,7 +29,7 @@ elements s (Some (Array vs)) = vs
 elements s (Some (Item item)) = item_elements s item
 elements s _ = []
 
--- An index outside 0 to size - 1 is trap 4, with the line of the `[`.
+-- An index outside 0 to size - 1 is the trap `Index`, with the line of the `[`.
 abbrev pub checked : ℕ → ℕ → ℤ → Answer ℕ
 checked size line i = passing (λ i. ltb i size) Index line i
 
@@ -51,7 +51,7 @@ as_truth n = Ok (left (truth (not (is_zero n.value))) n.turns)
 abbrev pub linked : Binary → ℕ → (u v : Bool) → Left ℤ → (ℕ → Answer (Left ℤ)) → Answer (Left ℤ)
 linked binary.And line u v a right = if is_zero a.value then Ok (left (pos 0) a.turns) else and_then (right a.turns) as_truth
 linked binary.Or line u v a right = if is_zero a.value then and_then (right a.turns) as_truth else Ok (left (pos 1) a.turns)
-linked op line u v a right = and_then (right a.turns) (λ b. with_turns b.turns (binary_value op line u v a.value b.value))
+linked op line u v a right = and_then (right a.turns) (λ b. with_turns b.turns (binary_answer op line u v a.value b.value))
 
 abbrev mutual
   -- The value of an expression, which changes no name. A wide number stands by its 32 bits.
@@ -62,7 +62,7 @@ abbrev mutual
   value file (tree.ExprTree.Call f args) s turns = and_then (values file args s turns) (call_value file.calls (variable file s f.id))
   value file (tree.Paren e) s turns = value file e s turns
   value file (tree.Unary op m e) s turns =
-      and_then (value file e s turns) (λ n. with_turns n.turns (unary_value op m.line (type_in file s e) n.value))
+      and_then (value file e s turns) (λ n. with_turns n.turns (unary_answer op m.line (type_in file s e) n.value))
   value file (tree.Chain l first links) s turns = and_then (value file first s turns) (chained file links s (type_in file s first))
   -- `condition ? first : second` evaluates one of the two. C11, 6.5.15.
   value file (tree.Choice c a b) s turns = and_then (value file c s turns)

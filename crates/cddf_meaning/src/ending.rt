@@ -5,7 +5,7 @@ use c_int::{ControlLimit, Trap};
 pub enum Ending {
     /// A trap, on a line of the program.
     Trapped { trap: Trap, line: u32 },
-    /// A unit was needed, and no turn was left.
+    /// A turn was needed, and none was left.
     OverBudget,
     /// A limit of the control program.
     Limited(ControlLimit),

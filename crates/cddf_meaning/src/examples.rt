@@ -2,12 +2,13 @@
 
 ghost use Rattle.std.specs.Prelude.{◌≡◌, Ok, [], ◌∷◌, false, negsuc, pos, true};
 ghost use Rattle.cddf_meaning.specs.Answers.{left};
-ghost use Rattle.cddf_meaning.specs.Body.{body, done, over_budget};
+ghost use Rattle.cddf_meaning.specs.Body.{body, done};
 ghost use Rattle.cddf_meaning.specs.Control.{control};
 ghost use Rattle.cddf_meaning.specs.Examples as examples;
 ghost use Rattle.c_int.specs.declared.trap.OperatorTrap.TheVariants.{DivisorZero, Overflow};
 ghost use Rattle.cddf_meaning.specs.TypedExamples as typed;
 ghost use Rattle.cddf_meaning.specs.TypedExamples.{both_of, int, trapped, unsigned, y_after};
+ghost use Rattle.flow_core_laws.specs.Outcome.{over_budget};
 ghost use Rattle.os_ast.specs.Examples.Invert as invert;
 
 /// Blocks of four bytes, each inverted. The last block of ten bytes has two.

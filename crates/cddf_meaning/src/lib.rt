@@ -1,7 +1,7 @@
 //! What a program means: its task bodies and its control program.
 //!
 //! The definitions stand in `specs/`, one notion a file, over the trees without boxes. `Answers` is what an evaluation
-//! comes to; `Variables`, `State` and `File` are what names stand for; `Types` are the types of expressions; `Value` and `Run`
+//! comes to; `Variables`, `BodyState` and `File` are what names stand for; `ExpressionTypes` are the types of expressions; `Value` and `Run`
 //! are big steps of expressions and statements, by name, over the 32 bits of numbers, and `TypedValue` is the value of an
 //! expression with its type, of which these are the bits; `Functions` ties the calls to the items before a function. `Streams`
 //! and `Claims` are what the control program does with streams. `Body` is the end of an activation for its inputs, with what it

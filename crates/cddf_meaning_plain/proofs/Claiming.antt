@@ -78,18 +78,18 @@ abbrev pub at_clause : List Clause → ℕ → List clause.ClausePart
 at_clause clauses i = clause.parts (map clause_tree (drop i clauses))
 
 clause-step : (clauses : List Clause) (i : ℕ) (c : Clause) → i < length clauses → c ≡ get_or clauses i c →
-    at_clause clauses i ≡ clause.parts_of (clause_kind_tree c.kind) ++ at_clause clauses (i + 1)
+    at_clause clauses i ≡ clause.clause_parts (clause_kind_tree c.kind) ++ at_clause clauses (i + 1)
 clause-step clauses i c inside is =
     ap (λ cs. clause.parts (map clause_tree cs)) (drop-cons clauses i c inside)
     ∙ ap (λ d. clause.parts (map clause_tree (d ∷ drop (suc i) clauses))) (sym is)
-    ∙ ap (λ k. clause.parts_of (clause_kind_tree c.kind) ++ at_clause clauses k) (sym (add-one i))
+    ∙ ap (λ k. clause.clause_parts (clause_kind_tree c.kind) ++ at_clause clauses k) (sym (add-one i))
 
 pub clause-stops : (file : File) (clauses : List Clause) (i : ℕ) (c : Clause) (s : BodyState) (turns : ℕ) (before : List Claim)
     (all : Answer (Left (List Claim))) (reason : Stop) → i < length clauses → c ≡ get_or clauses i c →
     behind before (items_claims file (at_clause clauses i) s turns) ≡ all →
-    Stops reason (items_claims file (clause.parts_of (clause_kind_tree c.kind)) s turns) → Stops reason all
+    Stops reason (items_claims file (clause.clause_parts (clause_kind_tree c.kind)) s turns) → Stops reason all
 clause-stops file clauses i c s turns before all (stop.Ended ending) inside is inv h =
-    let ps = clause.parts_of (clause_kind_tree c.kind) in
+    let ps = clause.clause_parts (clause_kind_tree c.kind) in
     let qs = at_clause clauses (i + 1) in
     sym inv ∙ ap (λ xs. behind before (items_claims file xs s turns)) (clause-step clauses i c inside is)
     ∙ ap (behind before) (claims-append file ps qs s turns)
@@ -99,10 +99,10 @@ clause-stops file clauses i c s turns before all stop.Memory inside is inv h = t
 pub clause-goes : (file : File) (clauses : List Clause) (i : ℕ) (c : Clause) (s : BodyState) (turns left : ℕ) (before after : List Claim)
     (all : Answer (Left (List Claim))) → i < length clauses → c ≡ get_or clauses i c →
     behind before (items_claims file (at_clause clauses i) s turns) ≡ all →
-    behind before (items_claims file (clause.parts_of (clause_kind_tree c.kind)) s turns) ≡ Ok (record { value = after; turns = left }) →
+    behind before (items_claims file (clause.clause_parts (clause_kind_tree c.kind)) s turns) ≡ Ok (record { value = after; turns = left }) →
     behind after (items_claims file (at_clause clauses (i + 1)) s left) ≡ all
 clause-goes file clauses i c s turns left before after all inside is inv h =
-    let ps = clause.parts_of (clause_kind_tree c.kind) in
+    let ps = clause.clause_parts (clause_kind_tree c.kind) in
     let qs = at_clause clauses (i + 1) in
     sym (went-on before after left (items_claims file ps s turns) (items_claims file qs s) h)
     ∙ ap (behind before) (sym (claims-append file ps qs s turns))

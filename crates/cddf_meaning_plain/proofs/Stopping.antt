@@ -3,7 +3,7 @@ use Rattle.std.proofs.Common.{◌≡◌, ℕ, List, Result, Ok, Err, ℤ, ap, �
 use Rattle.cddf_meaning.specs.Answers.{Answer, Left, and_then, over}
 use Rattle.cddf_meaning.specs.Flow.{Ran}
 use Rattle.cddf_meaning.specs.Functions.{returned}
-use Rattle.cddf_meaning_plain_state.specs.Stops.{Gives, Stops, StopsIn}
+use Rattle.cddf_meaning_plain_state.specs.Stops.{Evaluates, Stops, StopsIn}
 use Rattle.cddf_meaning_plain_state.specs.Claimed.{behind}
 use Rattle.cddf_meaning.specs.declared.ending.Ending.{Ending}
 use Rattle.cddf_meaning.specs.declared.ending.Ending.TheVariants.{OverBudget}
@@ -38,6 +38,6 @@ stops-returned (stop.Ended ending) acts r h = ap returned h
 stops-returned stop.Memory acts r h = tt
 
 pub then-gives : (result : Result ℤ Stop) (turns : ℕ) (a : Answer (Left ℤ)) (n : Left ℤ) (next : Left ℤ → Answer (Left ℤ)) → a ≡ Ok n →
-    Gives result turns (next n) → Gives result turns (and_then a next)
+    Evaluates result turns (next n) → Evaluates result turns (and_then a next)
 then-gives result turns a n next e h =
-    let P : Answer (Left ℤ) → Type 0 = λ x. Gives result turns (and_then x next) in subst P (sym e) h
+    let P : Answer (Left ℤ) → Type 0 = λ x. Evaluates result turns (and_then x next) in subst P (sym e) h

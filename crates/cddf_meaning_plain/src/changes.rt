@@ -4,7 +4,7 @@ ghost use Rattle.std.specs.Prelude.{◌≤◌, map};
 ghost use Rattle.cddf_meaning.specs.Functions.{file_of};
 ghost use Rattle.cddf_meaning.specs.Run.{aim_at, run_change};
 ghost use Rattle.os_ast.specs.Views.{change_tree, item_tree, target_tree};
-ghost use Rattle.cddf_meaning_plain_state.specs.Stops.{Gives, GoesOn};
+ghost use Rattle.cddf_meaning_plain_state.specs.Stops.{Evaluates, GoesOn};
 
 use crate::value::value;
 use c_int::Types;
@@ -24,7 +24,7 @@ fn aim_at(
     state: &BodyState,
     turns: &mut u64,
 ) -> Result<Aim, Stop>
-    ensures aims { Gives result turns.new (aim_at (file_of (map item_tree file.now)) (target_tree target.now) state.now turns.old) }
+    ensures aims { Evaluates result turns.new (aim_at (file_of (map item_tree file.now)) (target_tree target.now) state.now turns.old) }
     ensures fewer { turns.new ≤ turns.old }
 {
     let id = target.name.id;

@@ -44,10 +44,10 @@ fn run_main(
     })
 }
 
-/// The activations that the control program creates for an input of so many bytes, in order, and its end.
+/// The activations that the control program creates for an input of `input_len` bytes, in order, and its end.
 ///
 /// The program violates no rule. The input has at most 4,194,304 bytes, and the budget is that of the control program, in
-/// units. `Memory` is the one error; it says nothing of the program. The call is slow, and for tests.
+/// turns. `Memory` is the one error; it says nothing of the program. The call is slow, and for tests.
 pub fn plain_control(
     alloc: Global,
     program: &Program,

@@ -3,11 +3,11 @@
 ghost use Rattle.std.specs.Prelude.{◌≤◌, map};
 ghost use Rattle.cddf_meaning.specs.Functions.{call_function, file_of};
 ghost use Rattle.os_ast.specs.Views.{function_tree, item_tree};
-ghost use Rattle.cddf_meaning_plain_state.specs.Stops.{Gives};
+ghost use Rattle.cddf_meaning_plain_state.specs.Stops.{Evaluates};
 
 use crate::run::stmts;
 use cddf_meaning_plain_state::Stop;
-use cddf_meaning_plain_state::functions::{function_at, result_of, take_unit, with_params};
+use cddf_meaning_plain_state::functions::{function_at, result_of, take_turn, with_params};
 use cddf_meaning_plain_tasks::Around;
 use os_ast::{Function, Item};
 use std::alloc::Global;
@@ -21,7 +21,7 @@ pub(crate) fn call_function(
     args: &[i32],
     turns: &mut u64,
 ) -> Result<i32, Stop>
-    ensures gives { Gives result turns.new ((file_of (map item_tree file.now)).calls place args.now turns.old) }
+    ensures gives { Evaluates result turns.new ((file_of (map item_tree file.now)).calls place args.now turns.old) }
     ensures fewer { turns.new ≤ turns.old }
 {
     match function_at(file, place) {
@@ -39,10 +39,10 @@ fn entered(
     args: &[i32],
     turns: &mut u64,
 ) -> Result<i32, Stop>
-    ensures gives { Gives result turns.new (call_function (file_of (map item_tree file.now)) (function_tree function.now) args.now turns.old) }
+    ensures gives { Evaluates result turns.new (call_function (file_of (map item_tree file.now)) (function_tree function.now) args.now turns.old) }
     ensures fewer { turns.new ≤ turns.old }
 {
-    take_unit(turns)?;
+    take_turn(turns)?;
     let mut state = with_params(alloc, function.params.list(), args)?;
     let around = Around {
         file,

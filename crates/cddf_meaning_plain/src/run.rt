@@ -15,7 +15,7 @@ use crate::changes::change;
 use crate::streams::{task, tick};
 use crate::value::{called, value};
 use cddf_meaning::Flow;
-use cddf_meaning_plain_state::functions::take_unit;
+use cddf_meaning_plain_state::functions::take_turn;
 use cddf_meaning_plain_state::loops::step_behind;
 use cddf_meaning_plain_state::operators::holds;
 use cddf_meaning_plain_state::sizes::array_size;
@@ -171,7 +171,7 @@ fn start(
     }
 }
 
-/// Takes a unit, tests, and runs the body and the step, over and over.
+/// Takes a turn, tests, and runs the body and the step, over and over.
 #[cycle(meaning)]
 fn repeat(
     alloc: Global,
@@ -187,7 +187,7 @@ fn repeat(
     ensures fewer { turns.new ≤ turns.old }
 {
     loop {
-        take_unit(turns)?;
+        take_turn(turns)?;
         if !tested(alloc, around.file, test, state, turns)? {
             return Ok(Flow::GoesOn);
         }

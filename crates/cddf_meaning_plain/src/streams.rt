@@ -7,11 +7,11 @@ ghost use Rattle.cddf_meaning.specs.Streams.{items_claims, item_claim, joined, r
 ghost use Rattle.os_ast.specs.ClauseParts as clause;
 ghost use Rattle.os_ast.specs.Trees as tree;
 ghost use Rattle.os_ast.specs.Views.{clause_item_tree, clause_kind_tree, clause_tree, expr_tree, item_tree, join_tree, stmt_tree, target_tree};
-ghost use Rattle.cddf_meaning_plain_state.specs.Stops.{Adds, Gives, GoesOn};
+ghost use Rattle.cddf_meaning_plain_state.specs.Stops.{Adds, Evaluates, GoesOn};
 ghost use Rattle.cddf_meaning_plain_tasks.specs.Arounds.{around_of};
 
 use crate::value::value;
-use cddf_meaning_plain_state::functions::take_unit;
+use cddf_meaning_plain_state::functions::take_turn;
 use cddf_meaning_plain_state::streams::{
     burst_of, captured_values, claim_of, cursor_move, site_number,
 };
@@ -31,7 +31,7 @@ fn stream_number(
     state: &BodyState,
     turns: &mut u64,
 ) -> Result<u32, Stop>
-    ensures counts { Gives result turns.new (stream_number (file_of (map item_tree file.now)) (target_tree stream.now) state.now turns.old) }
+    ensures counts { Evaluates result turns.new (stream_number (file_of (map item_tree file.now)) (target_tree stream.now) state.now turns.old) }
     ensures fewer { turns.new ≤ turns.old }
 {
     let streams = state.streams(stream.name.id);
@@ -54,7 +54,7 @@ fn item_claim(
     state: &BodyState,
     turns: &mut u64,
 ) -> Result<Claim, Stop>
-    ensures claims { Gives result turns.new (item_claim (file_of (map item_tree file.now)) direction (clause_item_tree item.now) state.now turns.old) }
+    ensures claims { Evaluates result turns.new (item_claim (file_of (map item_tree file.now)) direction (clause_item_tree item.now) state.now turns.old) }
     ensures fewer { turns.new ≤ turns.old }
 {
     let stream = stream_number(alloc, file, &item.stream, state, turns)?;
@@ -75,7 +75,7 @@ fn joined(
     state: &BodyState,
     turns: &mut u64,
 ) -> Result<Claim, Stop>
-    ensures claims { Gives result turns.new (joined (file_of (map item_tree file.now)) direction stream
+    ensures claims { Evaluates result turns.new (joined (file_of (map item_tree file.now)) direction stream
         (option_map join_tree (Some join.now)) state.now turns.old) }
     ensures fewer { turns.new ≤ turns.old }
 {
@@ -123,7 +123,7 @@ fn clause_claims(
     turns: &mut u64,
 ) -> Result<(), Stop>
     ensures adds { Adds result claims.old claims.new turns.new (items_claims (file_of (map item_tree file.now))
-        (clause.parts_of (clause_kind_tree kind.now)) state.now turns.old) }
+        (clause.clause_parts (clause_kind_tree kind.now)) state.now turns.old) }
     ensures fewer { turns.new ≤ turns.old }
 {
     match kind {
@@ -146,7 +146,8 @@ fn all_claims(
     state: &BodyState,
     turns: &mut u64,
 ) -> Result<List<Claim>, Stop>
-    ensures claims { Gives result turns.new (items_claims (file_of (map item_tree file.now)) (clause.parts (map clause_tree clauses.now)) state.now turns.old) }
+    ensures claims { Evaluates result turns.new
+        (items_claims (file_of (map item_tree file.now)) (clause.parts (map clause_tree clauses.now)) state.now turns.old) }
     ensures fewer { turns.new ≤ turns.old }
 {
     let mut claims = List::new(alloc);
@@ -181,7 +182,7 @@ pub(crate) fn task(
     state.create(alloc, site_number(number)?, captured, claims.as_slice())
 }
 
-/// Runs a tick: the stream's index, the amount, a unit, and then the cursor moves.
+/// Runs a tick: the stream's index, the amount, a turn, and then the cursor moves.
 #[cycle(meaning)]
 pub(crate) fn tick(
     alloc: Global,
@@ -197,6 +198,6 @@ pub(crate) fn tick(
     let stream = stream_number(alloc, file, &site.stream, state, turns)?;
     let number = value(alloc, file, &site.amount, state, turns)?;
     let amount = cursor_move(site.arrow.line, number)?;
-    take_unit(turns)?;
+    take_turn(turns)?;
     state.tick(stream, amount)
 }

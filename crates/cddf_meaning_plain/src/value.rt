@@ -6,7 +6,7 @@ ghost use Rattle.cddf_meaning.specs.Functions.{file_of};
 ghost use Rattle.cddf_meaning.specs.Value.{chained, linked, place_value, value, values};
 ghost use Rattle.os_ast.specs.Views.{args_tree, expr_tree, item_tree, links_tree, target_tree};
 ghost use Rattle.cddf_meaning_plain.specs.Calls.{called};
-ghost use Rattle.cddf_meaning_plain_state.specs.Stops.{Gives};
+ghost use Rattle.cddf_meaning_plain_state.specs.Stops.{Evaluates};
 
 use crate::functions::call_function;
 use c_int::Types;
@@ -29,7 +29,7 @@ pub(crate) fn value(
     state: &BodyState,
     turns: &mut u64,
 ) -> Result<i32, Stop>
-    ensures gives { Gives result turns.new (value (file_of (map item_tree file.now)) (expr_tree expr.now) state.now turns.old) }
+    ensures gives { Evaluates result turns.new (value (file_of (map item_tree file.now)) (expr_tree expr.now) state.now turns.old) }
     ensures fewer { turns.new ≤ turns.old }
 {
     match expr {
@@ -68,7 +68,7 @@ fn place(
     state: &BodyState,
     turns: &mut u64,
 ) -> Result<i32, Stop>
-    ensures gives { Gives result turns.new (place_value (file_of (map item_tree file.now)) (target_tree target.now) state.now turns.old) }
+    ensures gives { Evaluates result turns.new (place_value (file_of (map item_tree file.now)) (target_tree target.now) state.now turns.old) }
     ensures fewer { turns.new ≤ turns.old }
 {
     let id = target.name.id;
@@ -93,7 +93,7 @@ fn chained(
     state: &BodyState,
     turns: &mut u64,
 ) -> Result<i32, Stop>
-    ensures gives { Gives result turns.new (chained (file_of (map item_tree file.now)) (links_tree links.now) state.now unsigned (pair first turns.old)) }
+    ensures gives { Evaluates result turns.new (chained (file_of (map item_tree file.now)) (links_tree links.now) state.now unsigned (pair first turns.old)) }
     ensures fewer { turns.new ≤ turns.old }
 {
     let mut left = first;
@@ -120,7 +120,7 @@ fn linked(
     state: &BodyState,
     turns: &mut u64,
 ) -> Result<i32, Stop>
-    ensures gives { Gives result turns.new (linked link.now.op link.now.mark.line types.left types.right (pair left turns.old)
+    ensures gives { Evaluates result turns.new (linked link.now.op link.now.mark.line types.left types.right (pair left turns.old)
         (value (file_of (map item_tree file.now)) (expr_tree link.now.right) state.now)) }
     ensures fewer { turns.new ≤ turns.old }
 {
@@ -140,7 +140,7 @@ pub(crate) fn called(
     state: &BodyState,
     turns: &mut u64,
 ) -> Result<i32, Stop>
-    ensures gives { Gives result turns.new (called (file_of (map item_tree file.now)) call.now.name.id (args_tree call.now.args) state.now turns.old) }
+    ensures gives { Evaluates result turns.new (called (file_of (map item_tree file.now)) call.now.name.id (args_tree call.now.args) state.now turns.old) }
     ensures fewer { turns.new ≤ turns.old }
 {
     let args = arguments(alloc, file, &call.args, state, turns)?;
@@ -159,7 +159,7 @@ fn arguments(
     state: &BodyState,
     turns: &mut u64,
 ) -> Result<List<i32>, Stop>
-    ensures gives { Gives result turns.new (values (file_of (map item_tree file.now)) (args_tree args.now) state.now turns.old) }
+    ensures gives { Evaluates result turns.new (values (file_of (map item_tree file.now)) (args_tree args.now) state.now turns.old) }
     ensures fewer { turns.new ≤ turns.old }
 {
     let mut values = List::new(alloc);

@@ -1,7 +1,7 @@
 -- What was done to read cursors, a move at a time, the last one first.
 use Rattle.std.proofs.Common.{◌≡◌, ℕ, suc, ◌+◌, ◌<◌, ◌==◌, Bool, true, false, if◌then◌else◌, List, [], ◌∷◌, ◌++◌, length, get_or, take, reverse, refl, sym, ap, ◌∙◌, arith}
 use Rattle.std.proofs.lemmas.List.{reverse-append}
-use Rattle.cddf_meaning.specs.Claims.{reads, since_read}
+use Rattle.cddf_meaning.specs.Claims.{since_read}
 use Rattle.cddf_meaning.specs.declared.cursor_move.Move.{Move}
 use Rattle.cddf_meaning.specs.declared.cursor_move.Move.TheVariants.{Take, Tick}
 use Rattle.cddf_meaning_plain_state.specs.Moving.{is_read, skipped}

@@ -4,10 +4,11 @@ use Rattle.std.proofs.Math.ListN.{get_or-map}
 use Rattle.std.proofs.lemmas.List.{length-map, length-take}
 use Rattle.cddf_meaning.proofs.Scoping.{with_items-last}
 use Rattle.cddf_meaning.specs.File.{File}
-use Rattle.cddf_meaning.specs.Functions.{file_of, with_item, with_items, empty_file, item_id, item_unsigned, item_variable}
+use Rattle.cddf_meaning.specs.Functions.{file_of, with_item, with_items, empty_file, item_unsigned, item_variable}
 use Rattle.cddf_meaning.specs.Variables.{bind, find, flag_or}
 use Rattle.cddf_meaning.specs.declared.variable.Binding.{Binding}
 use Rattle.cddf_meaning.specs.declared.variable.Variable.{Variable}
+use Rattle.os_ast.specs.Notes.Programs.{global_id}
 use Rattle.os_ast.specs.Trees as tree
 use Rattle.os_ast.specs.Views.{item_tree}
 use Rattle.os_ast.specs.declared.program.Item.{Item}
@@ -42,20 +43,20 @@ find-named a id u v bound h = grind (arith, h)
 find-unnamed : (a id : ℕ) (u : Bool) (v : Variable) (bound : List Binding) → a ≢ id → find (bind a u v bound) id ≡ find bound id
 find-unnamed a id u v bound h = grind (arith, h)
 
-pub found-here : (items : List Item) (i id : ℕ) (x : Item) → i < length items → x ≡ get_or items i x → item_id (item_tree x) ≡ id →
+pub found-here : (items : List Item) (i id : ℕ) (x : Item) → i < length items → x ≡ get_or items i x → global_id (item_tree x) ≡ id →
     find (file_of (take (suc i) (map item_tree items))).names id ≡ Some (item_variable i (item_tree x))
 found-here items i id x inside is named =
     let before = file_of (take i (map item_tree items)) in
     ap (λ f. find f.names id) (file-step items i x inside is)
-    ∙ find-named (item_id (item_tree x)) id (item_unsigned (item_tree x)) (item_variable before.count (item_tree x)) before.names named
+    ∙ find-named (global_id (item_tree x)) id (item_unsigned (item_tree x)) (item_variable before.count (item_tree x)) before.names named
     ∙ ap (λ n. Some (item_variable n (item_tree x))) (count-first items i inside)
 
-pub found-before : (items : List Item) (i id : ℕ) (x : Item) → i < length items → x ≡ get_or items i x → item_id (item_tree x) ≢ id →
+pub found-before : (items : List Item) (i id : ℕ) (x : Item) → i < length items → x ≡ get_or items i x → global_id (item_tree x) ≢ id →
     find (file_of (take (suc i) (map item_tree items))).names id ≡ find (file_of (take i (map item_tree items))).names id
 found-before items i id x inside is other =
     let before = file_of (take i (map item_tree items)) in
     ap (λ f. find f.names id) (file-step items i x inside is)
-    ∙ find-unnamed (item_id (item_tree x)) id (item_unsigned (item_tree x)) (item_variable before.count (item_tree x)) before.names other
+    ∙ find-unnamed (global_id (item_tree x)) id (item_unsigned (item_tree x)) (item_variable before.count (item_tree x)) before.names other
 
 flag-named : (e : Bool) (a id : ℕ) (u : Bool) (v : Variable) (bound : List Binding) → a ≡ id → flag_or e (bind a u v bound) id ≡ u
 flag-named e a id u v bound h = grind (arith, h)
@@ -65,19 +66,19 @@ flag-unnamed : (e : Bool) (a id : ℕ) (u : Bool) (v : Variable) (bound : List B
 flag-unnamed e a id u v bound h = grind (arith, h)
 
 -- the type of what they declare
-pub flag-here : (items : List Item) (i id : ℕ) (x : Item) → i < length items → x ≡ get_or items i x → item_id (item_tree x) ≡ id →
+pub flag-here : (items : List Item) (i id : ℕ) (x : Item) → i < length items → x ≡ get_or items i x → global_id (item_tree x) ≡ id →
     flag_or false (file_of (take (suc i) (map item_tree items))).names id ≡ item_unsigned (item_tree x)
 flag-here items i id x inside is named =
     let before = file_of (take i (map item_tree items)) in
     ap (λ f. flag_or false f.names id) (file-step items i x inside is)
-    ∙ flag-named false (item_id (item_tree x)) id (item_unsigned (item_tree x)) (item_variable before.count (item_tree x)) before.names named
+    ∙ flag-named false (global_id (item_tree x)) id (item_unsigned (item_tree x)) (item_variable before.count (item_tree x)) before.names named
 
-pub flag-before : (items : List Item) (i id : ℕ) (x : Item) → i < length items → x ≡ get_or items i x → item_id (item_tree x) ≢ id →
+pub flag-before : (items : List Item) (i id : ℕ) (x : Item) → i < length items → x ≡ get_or items i x → global_id (item_tree x) ≢ id →
     flag_or false (file_of (take (suc i) (map item_tree items))).names id ≡ flag_or false (file_of (take i (map item_tree items))).names id
 flag-before items i id x inside is other =
     let before = file_of (take i (map item_tree items)) in
     ap (λ f. flag_or false f.names id) (file-step items i x inside is)
-    ∙ flag-unnamed false (item_id (item_tree x)) id (item_unsigned (item_tree x)) (item_variable before.count (item_tree x)) before.names other
+    ∙ flag-unnamed false (global_id (item_tree x)) id (item_unsigned (item_tree x)) (item_variable before.count (item_tree x)) before.names other
 
 pub map-take-tree : (n : ℕ) (items : List Item) → map item_tree (take n items) ≡ take n (map item_tree items)
 map-take-tree zero items = refl

@@ -2,9 +2,10 @@
 use Rattle.std.specs.Prelude.{◌≡◌, ℕ, List, if◌then◌else◌, ℤ}
 use Rattle.c_int.specs.Traps.{trap_code}
 use Rattle.c_int.specs.declared.trap.Trap.TheVariants.{NoByte}
-use Rattle.cddf_meaning.specs.Body.{done, gives_bytes, trapped, outputs_of}
+use Rattle.cddf_meaning.specs.Body.{done, gives_bytes, outputs_of}
 use Rattle.cddf_meaning.specs.declared.ending.Ending.TheVariants.{Trapped, OverBudget, Limited}
 use Rattle.cddf_meaning.specs.declared.ending.Ending.{Ending}
+use Rattle.flow_core_laws.specs.Outcome.{trapped}
 use Rattle.flow_core_laws.specs.declared.claim.Claim.{Claim}
 use Rattle.flow_core_laws.specs.declared.outcome.Outcome.{Outcome}
 use Rattle.flow_core_laws.specs.declared.task_end.TaskEnd.TheVariants as end

@@ -29,16 +29,16 @@ Comes (Ok a) answer = answer ≡ Ok a
 Comes (Err stop) answer = Stops stop answer
 
 -- an evaluation that leaves these turns
-abbrev pub Gives : {A : Type 0} → Result A Stop → ℕ → Answer (Left A) → Type 0
-Gives (Ok v) turns answer = answer ≡ Ok (left v turns)
-Gives (Err stop) turns answer = Stops stop answer
+abbrev pub Evaluates : {A : Type 0} → Result A Stop → ℕ → Answer (Left A) → Type 0
+Evaluates (Ok v) turns answer = answer ≡ Ok (left v turns)
+Evaluates (Err stop) turns answer = Stops stop answer
 
 -- a statement that leaves this state and these turns
 abbrev pub Leaves : Result Flow Stop → BodyState → ℕ → Ran → Type 0
 Leaves (Ok flow) s turns r = r ≡ Went flow s turns
 Leaves (Err stop) s turns r = StopsIn stop s.activations r
 
--- one that nothing leaves
+-- a statement without `break`, `continue` or `return`
 abbrev pub GoesOn : {A : Type 0} → Result A Stop → BodyState → ℕ → Ran → Type 0
 GoesOn (Ok done) s turns r = r ≡ goes_on s turns
 GoesOn (Err stop) s turns r = StopsIn stop s.activations r

@@ -4,7 +4,7 @@ ghost use Rattle.std.specs.Option.{option_copied};
 ghost use Rattle.std.specs.Prelude.{◌≡◌, ◌-◌, ◌^◌, Bool, [], ◌∷◌, IfOk, IfSome, OnErr, OnOk, drop};
 ghost use Rattle.std.specs.Prelude.{get_or, length, min, pos, replicate, reverse, set, unwrap_or};
 ghost use Rattle.cddf_meaning.specs.Answers.{and_then};
-ghost use Rattle.cddf_meaning.specs.Claims.{horizons, limit, moves_behind, since_read, with_skip, with_skips};
+ghost use Rattle.cddf_meaning.specs.Claims.{limit, moves_behind, since_read, with_skip, with_skips};
 ghost use Rattle.cddf_meaning.specs.Run.{window_size, with_streams, after_store};
 ghost use Rattle.cddf_meaning.specs.BodyState as states;
 ghost use Rattle.cddf_meaning.specs.Streams.{horizon_of, moved};
@@ -17,6 +17,7 @@ ghost use Rattle.cddf_meaning_plain_state.specs.Moving.{is_read, skipped};
 ghost use Rattle.cddf_meaning_plain_state.specs.Places.{IsInnermost};
 ghost use Rattle.cddf_meaning_plain_state.specs.Seen.{seen};
 ghost use Rattle.cddf_meaning_plain_state.specs.Stops.{Comes, Limits, Made, Now};
+ghost use Rattle.flow_core_laws.specs.Window.{horizon_sum};
 
 use crate::names::Seen;
 use crate::stop::Stop;
@@ -50,7 +51,7 @@ impl Streams {
 
 /// The sum of the horizons of claims, or the greatest number where it is more.
 fn horizons(claims: &[Claim]) -> u64
-    ensures { result ≡ min (horizons claims.now) (2 ^ 64 - 1) }
+    ensures { result ≡ min (horizon_sum claims.now) (2 ^ 64 - 1) }
 {
     let mut sum: u64 = 0;
     for claim in claims {
@@ -59,7 +60,7 @@ fn horizons(claims: &[Claim]) -> u64
     sum
 }
 
-/// So many zeros.
+/// A list of `count` zeros.
 pub fn zeros(alloc: Global, count: u32) -> Result<List<i32>, Memory>
     ensures { IfOk result (λ zeros. zeros ≡ replicate count (pos 0)) }
 {
@@ -389,7 +390,7 @@ impl BodyState {
         Ok(())
     }
 
-    /// Declares a local array of so many zeros.
+    /// Declares a local array of `size` zeros.
     pub fn declare_array(
         &mut self,
         alloc: Global,
@@ -457,7 +458,7 @@ impl BodyState {
         }
     }
 
-    /// A tick moves the read cursor of a stream by so many positions.
+    /// A tick moves the read cursor of a stream by `amount` positions.
     #[tactic(auto, using(crate::proofs::Moving::reverse_last))]
     pub fn tick(&mut self, stream: u32, amount: u32) -> Result<(), Stop>
         ensures { Made result self.new (moved stream amount self.old) }

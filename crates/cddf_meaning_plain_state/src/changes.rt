@@ -4,7 +4,7 @@ ghost use Rattle.std.specs.Prelude.{◌≡◌, Ok, false, map, pos};
 ghost use Rattle.cddf_meaning.specs.Answers.{and_then};
 ghost use Rattle.cddf_meaning.specs.Functions.{file_of};
 ghost use Rattle.cddf_meaning.specs.Operators as operators;
-ghost use Rattle.cddf_meaning.specs.Operators.{binary_value};
+ghost use Rattle.cddf_meaning.specs.Operators.{binary_answer};
 ghost use Rattle.cddf_meaning.specs.Run.{after_store, assigned, old_value};
 ghost use Rattle.os_ast.specs.Views.{item_tree};
 ghost use Rattle.cddf_meaning_plain_state.specs.Stops.{Comes, Now};
@@ -76,7 +76,7 @@ pub fn take_step(
     aim: Aim,
     state: &mut BodyState,
 ) -> Result<(), Stop>
-    ensures { Now result state.new state.old (and_then (binary_value (operators.step_operator step) mark.line unsigned false
+    ensures { Now result state.new state.old (and_then (binary_answer (operators.step_operator step) mark.line unsigned false
         (old_value (file_of (map item_tree file.now)) state.old aim) (pos 1)) (λ v. Ok (after_store state.old aim v))) }
 {
     let old = old_value(file, state, aim)?;

@@ -17,7 +17,7 @@ use os_io::Memory;
 use std::alloc::Global;
 
 /// Takes one of the turns that are left.
-pub fn take_unit(turns: &mut u64) -> Result<(), Stop>
+pub fn take_turn(turns: &mut u64) -> Result<(), Stop>
     ensures taken { IfOk result (λ _. turns.old ≡ turns.new + 1) }
     ensures none { IfErr result (λ stop. (stop ≡ stops.Ended endings.OverBudget) × (turns.old ≡ 0)) }
     ensures fewer { turns.new ≤ turns.old }

@@ -3,7 +3,7 @@
 ghost use Rattle.std.specs.Prelude.{◌≡◌, Bool, ℕ, ℤ, Ok, false, true};
 ghost use Rattle.cddf_meaning.specs.Answers.{Answer, Left, and_then, left as pair};
 ghost use Rattle.cddf_meaning.specs.Value.{linked};
-ghost use Rattle.cddf_meaning_plain_state.specs.Stops.{Gives};
+ghost use Rattle.cddf_meaning_plain_state.specs.Stops.{Evaluates};
 
 use crate::operators::{binary, holds};
 use crate::stop::Stop;
@@ -27,7 +27,7 @@ pub fn needs_right(operator: Binary, left: i32) -> bool
 
 /// What an operator gives where its right side has this value, by the types of the two; a trap has its line.
 pub fn link_value(link: &Link, types: Types, left: i32, right: i32) -> Result<i32, Stop>
-    ensures { (turns : ℕ) → Gives result turns
+    ensures { (turns : ℕ) → Evaluates result turns
         (linked link.now.op link.now.mark.line types.left types.right (pair left turns) (λ turns. Ok (pair right turns))) }
 {
     match link.op {

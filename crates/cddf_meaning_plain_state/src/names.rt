@@ -2,10 +2,11 @@
 
 ghost use Rattle.std.specs.Prelude.{◌≡◌, Ok, Some, false, map, pos};
 ghost use Rattle.cddf_meaning.specs.File.{unsigned_name, variable};
-ghost use Rattle.cddf_meaning.specs.Functions.{file_of, item_id, item_unsigned, item_variable};
+ghost use Rattle.cddf_meaning.specs.Functions.{file_of, item_unsigned, item_variable};
 ghost use Rattle.cddf_meaning.specs.BodyState as states;
 ghost use Rattle.cddf_meaning.specs.Value.{scalar_value};
 ghost use Rattle.cddf_meaning.specs.Variables.{find, flag_or};
+ghost use Rattle.os_ast.specs.Notes.Programs.{global_id};
 ghost use Rattle.os_ast.specs.Views.{item_tree};
 ghost use Rattle.cddf_meaning_plain_state.specs.Seen.{seen};
 ghost use Rattle.cddf_meaning_plain_state.specs.Stops.{Comes};
@@ -37,7 +38,7 @@ pub fn int(number: u32) -> Result<i32, Stop>
 
 /// The number of the name that an item declares.
 pub fn item_id(item: &Item) -> u32
-    ensures { result ≡ item_id (item_tree item.now) }
+    ensures { result ≡ global_id (item_tree item.now) }
 {
     match item {
         Item::Constant(constant) => constant.name.id,

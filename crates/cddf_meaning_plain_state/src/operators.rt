@@ -3,7 +3,7 @@
 ghost use Rattle.std.specs.Prelude.{◌≡◌, not};
 ghost use Rattle.c_int.specs.Operators.{is_zero};
 ghost use Rattle.cddf_meaning.specs.Answers.{at_line};
-ghost use Rattle.cddf_meaning.specs.Operators.{binary_value, unary_value};
+ghost use Rattle.cddf_meaning.specs.Operators.{binary_answer, unary_answer};
 ghost use Rattle.cddf_meaning_plain_state.specs.Stops.{Comes};
 
 use crate::stop::Stop;
@@ -23,7 +23,7 @@ fn at_line(line: u32, given: Result<i32, OperatorTrap>) -> Result<i32, Stop>
 
 /// What an operator of this line gives of its operand, by its type.
 pub fn unary(operator: Unary, line: u32, unsigned: bool, a: i32) -> Result<i32, Stop>
-    ensures { Comes result (unary_value operator line unsigned a) }
+    ensures { Comes result (unary_answer operator line unsigned a) }
 {
     at_line(
         line,
@@ -33,7 +33,7 @@ pub fn unary(operator: Unary, line: u32, unsigned: bool, a: i32) -> Result<i32, 
 
 /// What an operator of this line gives of its operands, by their types. `&&` and `||` are told apart before.
 pub(crate) fn binary(operator: Binary, line: u32, types: Types, a: i32, b: i32) -> Result<i32, Stop>
-    ensures { Comes result (binary_value operator line types.left types.right a b) }
+    ensures { Comes result (binary_answer operator line types.left types.right a b) }
 {
     match operator_of_two(operator) {
         None => Ok(0),

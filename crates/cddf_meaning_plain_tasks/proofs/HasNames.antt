@@ -5,7 +5,7 @@ use Rattle.cddf_meaning.proofs.IsIn.{in-append}
 use Rattle.cddf_meaning_plain_tasks.specs.Sought.{ids_of, item_names, items_names}
 use Rattle.cddf_meaning_plain_tasks.specs.Has.{calls_item, clause_calls_item, clause_item_ids, clause_lists, clauses_item_ids, declares, has_args, has_change, has_clause, has_clauses, has_declarators, has_expr, has_index, has_items, has_join, has_links, has_start, has_step, has_stmt, has_stmts, has_target, has_task, has_value, lists}
 use Rattle.os_ast.specs.FreeNames.{args_names, change_names, declarators_names, expr_names, index_names, join_names, links_names, parts_names, start_ids, start_names, step_names, stmt_ids, stmt_names, stmts_names, target_names, task_names, value_names, without}
-use Rattle.os_ast.specs.ClauseParts.{ClausePart, Item, Private, is_in, item_ids, item_name, parts, parts_of, private_ids}
+use Rattle.os_ast.specs.ClauseParts.{ClausePart, Item, Private, is_in, item_ids, item_name, parts, clause_parts, private_ids}
 use Rattle.os_ast.specs.Trees as tree
 use Rattle.os_ast.specs.declared.expr.Name.{Name}
 use Rattle.os_ast.specs.declared.names.Direction.TheVariants as direction
@@ -162,7 +162,7 @@ items-has id (i ∷ is) =
     (target-has id i.stream) (join-has id i.window))
     (items-has id is)
 
-clause-has : (id : ℕ) (k : tree.ClauseKindTree) → has_clause id k ≡ is_in id (parts_names (parts_of k))
+clause-has : (id : ℕ) (k : tree.ClauseKindTree) → has_clause id k ≡ is_in id (parts_names (clause_parts k))
 clause-has id (tree.Input is) = items-has id is ∙ ap (is_in id) (sym (parts_names-items direction.Reads is))
 clause-has id (tree.Output is) = items-has id is ∙ ap (is_in id) (sym (parts_names-items direction.Writes is))
 clause-has id (tree.Firstprivate ns) = ap (is_in id) (sym (parts_names-privates ns))
@@ -170,10 +170,10 @@ clause-has id (tree.Firstprivate ns) = ap (is_in id) (sym (parts_names-privates 
 clauses-has : (id : ℕ) (cs : List tree.ClauseTree) → has_clauses id cs ≡ is_in id (parts_names (parts cs))
 clauses-has id [] = refl
 clauses-has id (c ∷ cs) =
-    in-or id (parts_names (parts_of c.kind)) (parts_names (parts cs)) (has_clause id c.kind) (has_clauses id cs) (clause-has id c.kind) (clauses-has id cs)
-    ∙ ap (is_in id) (sym (parts_names-append (parts_of c.kind) (parts cs)))
+    in-or id (parts_names (clause_parts c.kind)) (parts_names (parts cs)) (has_clause id c.kind) (has_clauses id cs) (clause-has id c.kind) (clauses-has id cs)
+    ∙ ap (is_in id) (sym (parts_names-append (clause_parts c.kind) (parts cs)))
 
-clause-calls : (id : ℕ) (k : tree.ClauseKindTree) → clause_calls_item id k ≡ is_in id (item_ids (parts_of k))
+clause-calls : (id : ℕ) (k : tree.ClauseKindTree) → clause_calls_item id k ≡ is_in id (item_ids (clause_parts k))
 clause-calls id (tree.Input is) = ap (is_in id) (sym (item_ids-items direction.Reads is))
 clause-calls id (tree.Output is) = ap (is_in id) (sym (item_ids-items direction.Writes is))
 clause-calls id (tree.Firstprivate ns) = ap (is_in id) (sym (item_ids-privates ns))
@@ -181,10 +181,10 @@ clause-calls id (tree.Firstprivate ns) = ap (is_in id) (sym (item_ids-privates n
 clauses-call : (id : ℕ) (cs : List tree.ClauseTree) → calls_item id cs ≡ is_in id (item_ids (parts cs))
 clauses-call id [] = refl
 clauses-call id (c ∷ cs) =
-    in-or id (item_ids (parts_of c.kind)) (item_ids (parts cs)) (clause_calls_item id c.kind) (calls_item id cs) (clause-calls id c.kind) (clauses-call id cs)
-    ∙ ap (is_in id) (sym (item_ids-append (parts_of c.kind) (parts cs)))
+    in-or id (item_ids (clause_parts c.kind)) (item_ids (parts cs)) (clause_calls_item id c.kind) (calls_item id cs) (clause-calls id c.kind) (clauses-call id cs)
+    ∙ ap (is_in id) (sym (item_ids-append (clause_parts c.kind) (parts cs)))
 
-clause-lists : (id : ℕ) (k : tree.ClauseKindTree) → clause_lists id k ≡ is_in id (private_ids (parts_of k))
+clause-lists : (id : ℕ) (k : tree.ClauseKindTree) → clause_lists id k ≡ is_in id (private_ids (clause_parts k))
 clause-lists id (tree.Input is) = ap (is_in id) (sym (private_ids-items direction.Reads is))
 clause-lists id (tree.Output is) = ap (is_in id) (sym (private_ids-items direction.Writes is))
 clause-lists id (tree.Firstprivate ns) = ap (is_in id) (sym (private_ids-privates ns))
@@ -192,8 +192,8 @@ clause-lists id (tree.Firstprivate ns) = ap (is_in id) (sym (private_ids-private
 clauses-list : (id : ℕ) (cs : List tree.ClauseTree) → lists id cs ≡ is_in id (private_ids (parts cs))
 clauses-list id [] = refl
 clauses-list id (c ∷ cs) =
-    in-or id (private_ids (parts_of c.kind)) (private_ids (parts cs)) (clause_lists id c.kind) (lists id cs) (clause-lists id c.kind) (clauses-list id cs)
-    ∙ ap (is_in id) (sym (private_ids-append (parts_of c.kind) (parts cs)))
+    in-or id (private_ids (clause_parts c.kind)) (private_ids (parts cs)) (clause_lists id c.kind) (lists id cs) (clause-lists id c.kind) (clauses-list id cs)
+    ∙ ap (is_in id) (sym (private_ids-append (clause_parts c.kind) (parts cs)))
 
 stmt-declares : (id : ℕ) (a : tree.StmtTree) → declares id a ≡ is_in id (stmt_ids a)
 stmt-declares id tree.StmtTree.Empty = refl
@@ -260,7 +260,7 @@ task_has id cs body =
     (clauses-list id cs)
     (in-not id (item_ids (parts cs)) (stmt_names body) (calls_item id cs) (has_stmt id body) (clauses-call id cs) (stmt-has id body))
 
-clause-ids : (k : tree.ClauseKindTree) → clause_item_ids k ≡ item_ids (parts_of k)
+clause-ids : (k : tree.ClauseKindTree) → clause_item_ids k ≡ item_ids (clause_parts k)
 clause-ids (tree.Input is) = sym (item_ids-items direction.Reads is)
 clause-ids (tree.Output is) = sym (item_ids-items direction.Writes is)
 clause-ids (tree.Firstprivate ns) = sym (item_ids-privates ns)
@@ -270,5 +270,5 @@ pub clauses_ids : (cs : List tree.ClauseTree) → clauses_item_ids cs ≡ item_i
 clauses_ids [] = refl
 clauses_ids (c ∷ cs) =
     ap (λ ids. ids ++ clauses_item_ids cs) (clause-ids c.kind)
-    ∙ ap (λ ids. item_ids (parts_of c.kind) ++ ids) (clauses_ids cs)
-    ∙ sym (item_ids-append (parts_of c.kind) (parts cs))
+    ∙ ap (λ ids. item_ids (clause_parts c.kind) ++ ids) (clauses_ids cs)
+    ∙ sym (item_ids-append (clause_parts c.kind) (parts cs))

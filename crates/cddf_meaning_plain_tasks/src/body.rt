@@ -12,7 +12,7 @@ use flow_core_laws::{Activation, Claim};
 use os_io::{List, Memory};
 use std::alloc::Global;
 
-/// The first numbers of an input, so many where they are there, and the others.
+/// The first `horizon` numbers of an input, or all where there are fewer, and the others.
 fn window(inputs: &[i32], horizon: u32) -> (&[i32], &[i32])
     ensures first { result.0.now ≡ take horizon inputs.now }
     ensures others { result.1.now ≡ drop horizon inputs.now }

@@ -32,7 +32,7 @@ impl Model for Sites {
 }
 
 impl Sites {
-    /// No task.
+    /// A list without tasks.
     fn new(alloc: Global) -> Sites
         ensures { result ≡ [] }
     {

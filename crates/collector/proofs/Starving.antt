@@ -28,7 +28,7 @@ use Rattle.flow_core_laws.specs.declared.task_end.TaskEnd.{TaskEnd}
 use Rattle.flow_core_laws.specs.declared.task_end.TaskEnd.TheVariants.{Done, Trapped, OverBudget, Poisoned}
 use Rattle.collector.proofs.Firsts.{one_found}
 use Rattle.collector.specs.Laws.{HasItsLines, ProducersAreStarved}
-use Rattle.collector.specs.Line.{line}
+use Rattle.os_io.specs.Lines.{ended_line}
 use Rattle.collector.specs.Missing.{missing_at}
 use Rattle.collector.specs.Report.{activation_line, end_line, producer_text, starved_line}
 use Rattle.collector.specs.Reported.{AreOfState, is_poison, is_poisoned, is_undone_at}
@@ -56,7 +56,7 @@ all_gathered {V = V} f g test says (x ∷ xs) none = by (f (g x)) refl (all_gath
         (v ∷ vs, gathered_there (f (g x)) (map f (map g xs)) v vs is rest)
 
 -- a line isn't empty
-no_line : (text : List ℕ) → line text ≢ []
+no_line : (text : List ℕ) → ended_line text ≢ []
 no_line [] h = absurd (cc)
 no_line (c ∷ cs) h = absurd (cc)
 
@@ -98,10 +98,10 @@ module _ (activations : List Activation) (input : List ℕ) (body : ℕ → List
 
       by_outcome : (a k : ℕ) (o : Option Outcome) → outcome_at state a ≡ o → is_poison (output_at own_number state a k) ≡ is_undone_at ends a
       by_outcome a k None is =
-          ap (λ (p : Option Outcome). is_poison (option_and_then (λ (q : Outcome). elements.written a q k) p)) is
+          ap (λ (p : Option Outcome). is_poison (option_and_then (λ (q : Outcome). elements.element_written a q k) p)) is
           ∙ sym (ap (λ (e : Option TaskEnd). option_map_or (λ (e : TaskEnd). not (is_done e)) e false) (end_of state a ∙ ap (option_map (λ (q : Outcome). q.end)) is))
       by_outcome a k (Some o) is =
-          ap (λ (p : Option Outcome). is_poison (option_and_then (λ (q : Outcome). elements.written a q k) p)) is ∙ poison_written a o.end o.outputs k
+          ap (λ (p : Option Outcome). is_poison (option_and_then (λ (q : Outcome). elements.element_written a q k) p)) is ∙ poison_written a o.end o.outputs k
           ∙ sym (ap (λ (e : Option TaskEnd). option_map_or (λ (e : TaskEnd). not (is_done e)) e false) (end_of state a ∙ ap (option_map (λ (q : Outcome). q.end)) is))
 
       by_producer : (o : Option Window) → is_poison (stream_element state (option_map_or (λ (w : Window). fed w.activation (w.offset + (place.position - w.first))) o nobody)) ≡ option_map_or (λ (w : Window). is_undone_at ends w.activation) o false

@@ -10,14 +10,14 @@ use Rattle.flow_core_laws.specs.declared.outcome.Outcome.{Outcome}
 use Rattle.flow_core_laws.specs.declared.task_end.TaskEnd.{TaskEnd}
 use Rattle.flow_core_laws.specs.Laws.{IsFilled}
 use Rattle.flow_core_laws.specs.Outcome.{has_end_at}
-use Rattle.flow_core_laws.specs.Streams.{stream_ends, stream_meaning}
+use Rattle.flow_core_laws.specs.Streams.{meant_ends, stream_meaning}
 use Rattle.flow_core_laws.specs.There.{is_there}
 use Rattle.collector.specs.declared.missing.Missing.{Missing}
 use Rattle.collector.specs.Missing.{missing_at, missing}
 use Rattle.collector.specs.Written.{byte_of, written}
 use Rattle.collector.specs.Report.{activation_line}
 use Rattle.collector.specs.Reported.{AreOfState, is_poisoned}
-use Rattle.collector.specs.Status.{has_done, status}
+use Rattle.collector.specs.Status.{done_status, has_done, status}
 
 -- The bytes are the longest prefix of the elements that has values alone: all of it are values, and behind it nothing is
 -- there, or poison, or it goes to the end.
@@ -53,13 +53,13 @@ pub record IsFirstMissing (activations : List Activation) (input_len : ℕ) (end
 abbrev pub AllIsWritten : Type 0
 AllIsWritten =
     (activations : List Activation) (input_len : ℕ) (ends : Ends) (control : ControlEnd) → AreOfState activations input_len ends
-    → status ends.ends control ≡ 0 → length (written ends.output) ≡ written_count activations 1
+    → status ends.ends control ≡ done_status → length (written ends.output) ≡ written_count activations 1
 
 -- a fact of what the meaning of activations over an input comes to, where those that are Done filled their outputs
 abbrev pub OfFilled : (List Activation → ℕ → Ends → Type 0) → Type 0
 OfFilled fact = (activations : List Activation) (input : List ℕ) (body : ℕ → List ℤ → Outcome)
     → IsFilled activations (stream_meaning activations input body)
-    → fact activations (length input) (stream_ends activations input (stream_meaning activations input body))
+    → fact activations (length input) (meant_ends activations input body)
 
 -- An activation without an end misses an element. So each activation that isn't Done has a line in the report, and no
 -- other has one.

@@ -1,7 +1,6 @@
 -- What a reader believes: what is written, missing and reported, and the status.
 pub mod Written
 pub mod Missing
-pub mod Line
 pub mod Report
 pub mod Status
 -- The states whose output is written, and the laws.

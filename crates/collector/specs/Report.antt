@@ -10,7 +10,7 @@ use Rattle.flow_core_laws.specs.declared.task_end.TaskEnd.{TaskEnd}
 use Rattle.flow_core_laws.specs.declared.task_end.TaskEnd.TheVariants as task_end
 use Rattle.flow_core_laws.specs.declared.ends.Ends.{Ends}
 use Rattle.collector.specs.declared.missing.Missing.{Missing}
-use Rattle.collector.specs.Line.{line}
+use Rattle.os_io.specs.Lines.{ended_line}
 use Rattle.collector.specs.Missing.{missing}
 use Rattle.collector.specs.Written.{written}
 use Rattle.flow_core_laws.specs.declared.control.ControlEnd.TheVariants as control_end
@@ -21,15 +21,15 @@ producer_text producer = option_map_or (λ b. decimal b ++ codes " starved") pro
 
 -- The line of an activation that is starved: its first missing element, with that element's producer.
 abbrev pub starved_line : ℕ → Missing → List ℕ
-starved_line a m = line (codes "starved " ++ decimal a ++ codes " stream " ++ decimal m.stream ++ codes " position " ++ decimal m.position
+starved_line a m = ended_line (codes "starved " ++ decimal a ++ codes " stream " ++ decimal m.stream ++ codes " position " ++ decimal m.position
     ++ codes " producer " ++ producer_text m.producer)
 
 -- The line of an activation with an end; one that is Done has none, and one that was poisoned tells the root.
 abbrev pub end_line : ℕ → TaskEnd → List ℕ
 end_line a task_end.Done = []
-end_line a (task_end.Trapped code line_number) = line (codes "trapped " ++ decimal a ++ codes " code " ++ decimal code ++ codes " line " ++ decimal line_number)
-end_line a task_end.OverBudget = line (codes "over-budget " ++ decimal a)
-end_line a (task_end.Poisoned root) = line (codes "poisoned " ++ decimal a ++ codes " by " ++ decimal root)
+end_line a (task_end.Trapped code line) = ended_line (codes "trapped " ++ decimal a ++ codes " code " ++ decimal code ++ codes " line " ++ decimal line)
+end_line a task_end.OverBudget = ended_line (codes "over-budget " ++ decimal a)
+end_line a (task_end.Poisoned root) = ended_line (codes "poisoned " ++ decimal a ++ codes " by " ++ decimal root)
 
 -- The line of an activation by its end; one without an end is starved, as long as an element is missing.
 abbrev pub activation_line : List Activation → ℕ → List (Option TaskEnd) → ℕ → List ℕ
@@ -38,14 +38,14 @@ activation_line activations input_len ends a = option_map_or (end_line a) (slice
 
 -- The line of the control program.
 abbrev pub control_line : ControlEnd → List ℕ
-control_line control_end.Done = line (codes "control done")
-control_line (control_end.Trapped code line_number) = line (codes "control trapped code " ++ decimal code ++ codes " line " ++ decimal line_number)
-control_line control_end.OverBudget = line (codes "control over-budget")
-control_line (control_end.Limit limit) = line (codes "control limit " ++ decimal limit)
+control_line control_end.Done = ended_line (codes "control done")
+control_line (control_end.Trapped code line) = ended_line (codes "control trapped code " ++ decimal code ++ codes " line " ++ decimal line)
+control_line control_end.OverBudget = ended_line (codes "control over-budget")
+control_line (control_end.Limit limit) = ended_line (codes "control limit " ++ decimal limit)
 
 -- The line of the output: how many bytes were written, of how many positions that are claimed for writing.
 abbrev pub output_line : ℕ → ℕ → List ℕ
-output_line count claimed = line (codes "output " ++ decimal count ++ codes " of " ++ decimal claimed)
+output_line count claimed = ended_line (codes "output " ++ decimal count ++ codes " of " ++ decimal claimed)
 
 -- The lines of the first activations that aren't Done, in control order.
 abbrev pub activation_lines : List Activation → ℕ → List (Option TaskEnd) → ℕ → List ℕ

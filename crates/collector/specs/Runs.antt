@@ -9,15 +9,15 @@ use Rattle.flow_core_laws.specs.declared.outcome.Outcome.{Outcome}
 use Rattle.flow_core_laws.specs.declared.task_end.TaskEnd.{TaskEnd}
 use Rattle.flow_core_laws.specs.declared.task_end.TaskEnd.TheVariants.{Done}
 use Rattle.flow_core_laws.specs.Outcome.{outcome_of}
-use Rattle.flow_core_laws.specs.Streams.{stream_ends, stream_meaning}
+use Rattle.flow_core_laws.specs.Streams.{meant_ends}
 use Rattle.collector.specs.Report.{report}
 
--- a claim that reads so many elements of a stream, and one that writes so many
-abbrev pub reads : ℕ → ℕ → Claim
-reads stream horizon = record { stream = stream; write = false; horizon = horizon; burst = horizon; skip = 0 }
+-- a claim that reads `horizon` elements of a stream, and one that writes as many
+abbrev pub read_claim : ℕ → ℕ → Claim
+read_claim stream horizon = record { stream = stream; write = false; horizon = horizon; burst = horizon; skip = 0 }
 
-abbrev pub writes : ℕ → ℕ → Claim
-writes stream horizon = record { stream = stream; write = true; horizon = horizon; burst = horizon; skip = 0 }
+abbrev pub write_claim : ℕ → ℕ → Claim
+write_claim stream horizon = record { stream = stream; write = true; horizon = horizon; burst = horizon; skip = 0 }
 
 abbrev pub task : List Claim → Activation
 task claims = record { site = 0; captured = []; claims = claims }
@@ -29,7 +29,7 @@ body failing activation inputs =
 
 -- what a run comes to, and its report
 abbrev pub ends_of_run : List Activation → List (Option TaskEnd) → Ends
-ends_of_run activations failing = stream_ends activations [] (stream_meaning activations [] (body failing))
+ends_of_run activations failing = meant_ends activations [] (body failing)
 
 abbrev pub told : List Activation → List (Option TaskEnd) → List ℕ
 told activations failing = report activations 0 (ends_of_run activations failing) control_end.Done
@@ -37,13 +37,13 @@ told activations failing = report activations 0 (ends_of_run activations failing
 -- The first activation traps. The second one reads what it should have written, and the third one what the second should
 -- have written, and an element that nobody writes.
 abbrev pub handed_on : List Activation
-handed_on = task (writes 2 1 ∷ []) ∷ task (reads 2 1 ∷ writes 2 1 ∷ []) ∷ task (reads 2 2 ∷ writes 1 1 ∷ []) ∷ []
+handed_on = task (write_claim 2 1 ∷ []) ∷ task (read_claim 2 1 ∷ write_claim 2 1 ∷ []) ∷ task (read_claim 2 2 ∷ write_claim 1 1 ∷ []) ∷ []
 
 -- Two activations trap. The third one reads first what the second should have written, and then what the first should
 -- have written.
 abbrev pub two_roots : List Activation
-two_roots = task (writes 2 1 ∷ []) ∷ task (writes 3 1 ∷ []) ∷ task (reads 3 1 ∷ reads 2 1 ∷ writes 1 1 ∷ []) ∷ []
+two_roots = task (write_claim 2 1 ∷ []) ∷ task (write_claim 3 1 ∷ []) ∷ task (read_claim 3 1 ∷ read_claim 2 1 ∷ write_claim 1 1 ∷ []) ∷ []
 
 -- Three activations write to the output, one position each, and the second one uses up its turns.
 abbrev pub stops_at_poison : List Activation
-stops_at_poison = task (writes 1 1 ∷ []) ∷ task (writes 1 1 ∷ []) ∷ task (writes 1 1 ∷ []) ∷ []
+stops_at_poison = task (write_claim 1 1 ∷ []) ∷ task (write_claim 1 1 ∷ []) ∷ task (write_claim 1 1 ∷ []) ∷ []

@@ -27,7 +27,7 @@ is_missing activations input_len ends place = not (is_there activations input_le
 abbrev pub is_gap : List Activation → ℕ → List (Option TaskEnd) → ℕ → ℕ → Bool
 is_gap activations input_len ends stream position = is_missing activations input_len ends (record { stream = stream; position = position })
 
--- the first position of a stream, of so many from one on, whose element isn't there
+-- of the `count` positions of a stream from `first` on, the first one whose element isn't there
 abbrev pub first_gap : List Activation → ℕ → List (Option TaskEnd) → ℕ → ℕ → ℕ → Option ℕ
 first_gap activations input_len ends stream first count = find (is_gap activations input_len ends stream) (range_with_len first count)
 

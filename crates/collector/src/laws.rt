@@ -6,7 +6,7 @@ ghost use Rattle.flow_core_laws.specs.declared.elem.Elem.{Elem};
 ghost use Rattle.flow_core_laws.specs.declared.ends.Ends.{Ends};
 ghost use Rattle.flow_core_laws.specs.declared.task_end.TaskEnd.{TaskEnd};
 ghost use Rattle.flow_core_laws.specs.declared.task_end.TaskEnd.TheVariants.{Trapped, OverBudget};
-ghost use Rattle.collector.specs.Line.{line};
+ghost use Rattle.os_io.specs.Lines.{ended_line};
 ghost use Rattle.collector.specs.Laws.{
   AllIsWritten,
   HasItsLines,
@@ -61,12 +61,12 @@ pub fn all_but_done_have_lines()
 /// two roots, though its element is read second; and an output that stops at poison, though a value stands behind it.
 pub fn small_runs()
     ensures handed_on { told handed_on (Some (Trapped 2 5) ∷ [])
-        ≡ line (codes "trapped 0 code 2 line 5") ++ line (codes "poisoned 1 by 0")
-        ++ line (codes "starved 2 stream 2 position 2 producer none") ++ line (codes "control done") ++ line (codes "output 0 of 1") }
+        ≡ ended_line (codes "trapped 0 code 2 line 5") ++ ended_line (codes "poisoned 1 by 0")
+        ++ ended_line (codes "starved 2 stream 2 position 2 producer none") ++ ended_line (codes "control done") ++ ended_line (codes "output 0 of 1") }
     ensures two_roots { told two_roots (Some (Trapped 2 5) ∷ Some (Trapped 2 7) ∷ [])
-        ≡ line (codes "trapped 0 code 2 line 5") ++ line (codes "trapped 1 code 2 line 7") ++ line (codes "poisoned 2 by 0")
-        ++ line (codes "control done") ++ line (codes "output 0 of 1") }
+        ≡ ended_line (codes "trapped 0 code 2 line 5") ++ ended_line (codes "trapped 1 code 2 line 7") ++ ended_line (codes "poisoned 2 by 0")
+        ++ ended_line (codes "control done") ++ ended_line (codes "output 0 of 1") }
     ensures stops_at_poison { told stops_at_poison (None ∷ Some OverBudget ∷ [])
-        ≡ line (codes "over-budget 1") ++ line (codes "control done") ++ line (codes "output 1 of 3") }
+        ≡ ended_line (codes "over-budget 1") ++ ended_line (codes "control done") ++ ended_line (codes "output 1 of 3") }
     ensures writes_before_poison { written (ends_of_run stops_at_poison (None ∷ Some OverBudget ∷ [])).output ≡ 7 ∷ [] }
 {}

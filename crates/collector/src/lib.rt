@@ -5,7 +5,7 @@
 //! `written_length` says how many they are. `first_missing` says for which element a starved activation waits, and who should
 //! give it; `producer` finds the window that gives an element. `report_lines` writes a line for each activation that isn't Done,
 //! where one that was poisoned tells the root, one for the control program and one for the output; it takes no memory, and goes
-//! through one fixed buffer, so that a report of many lines is few writes. `is_all_done` says whether the status of the run is 0.
+//! through one fixed buffer, so that a report of many lines is few writes. `run_status` gives the status of the run.
 //!
 //! `specs/` says what is written, missing and reported, over any list of activations; the calls promise
 //! exactly that. The laws stand in `laws`.
@@ -19,7 +19,7 @@ mod output;
 mod report;
 mod status;
 
-pub use missing::{Missing, first_missing, producer};
+pub use missing::{Missing, first_missing, has_end, producer};
 pub use output::output_bytes;
 pub use report::{report_lines, written_length};
-pub use status::is_all_done;
+pub use status::{RunStatus, has_done, run_status};

@@ -27,7 +27,7 @@ impl Model for LineBuffer {
 }
 
 impl LineBuffer {
-    /// Nothing is kept.
+    /// A buffer that keeps nothing yet.
     pub(crate) fn new() -> LineBuffer
         ensures { result ≡ [] }
     {

@@ -1,7 +1,7 @@
 ghost use Rattle.std.specs.Prelude.{◌++◌, codes};
 ghost use Rattle.std.specs.Fmt.{decimal};
 ghost use Rattle.collector.specs.Buffering.{GoesOn};
-ghost use Rattle.collector.specs.Line.{line};
+ghost use Rattle.os_io.specs.Lines.{ended_line};
 ghost use Rattle.collector.specs.Report.{control_line, end_line, output_line, producer_text, starved_line};
 
 use crate::line_buffer::LineBuffer;
@@ -73,11 +73,11 @@ impl LineBuffer {
     }
 
     /// Adds where a trap was hit, and ends the line.
-    fn trap<S: Sink>(&mut self, sink: &mut S, code: u8, line_number: u32) -> Result<(), WriteError>
-        ensures { GoesOn S.Sink sink.old sink.new self.old self.new (line (codes " code " ++ decimal code ++ codes " line " ++ decimal line_number)) result }
+    fn trap<S: Sink>(&mut self, sink: &mut S, code: u8, line: u32) -> Result<(), WriteError>
+        ensures { GoesOn S.Sink sink.old sink.new self.old self.new (ended_line (codes " code " ++ decimal code ++ codes " line " ++ decimal line)) result }
     {
         self.field(sink, b" code ", code as u64)?;
-        self.field(sink, b" line ", line_number as u64)?;
+        self.field(sink, b" line ", line as u64)?;
         self.text(sink, b"\n")
     }
 

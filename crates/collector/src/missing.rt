@@ -110,7 +110,7 @@ fn covered_to(layout: &Layout, ends: &Ends, stream: u32, position: u64) -> Optio
         → Reaches activations layout.now.input_len ends.now.ends stream position result }
 {
     let span = producer(layout, stream, position)?;
-    if has_end(ends, span.frame) {
+    if has_end(ends, u32::from(span.frame)) {
         Some(span.first + u64::from(span.count))
     } else {
         None
@@ -141,8 +141,8 @@ pub fn producer(layout: &Layout, stream: u32, position: u64) -> Option<Span>
 }
 
 /// Whether an activation has an end.
-fn has_end(ends: &Ends, frame: u16) -> bool
+pub fn has_end(ends: &Ends, frame: u32) -> bool
     ensures { result ≡ has_end_at ends.now.ends frame }
 {
-    ends.end_of(u32::from(frame)).is_some()
+    ends.end_of(frame).is_some()
 }

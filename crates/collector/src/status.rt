@@ -1,12 +1,32 @@
 ghost use Rattle.std.specs.Prelude.{◌≡◌, if◌then◌else◌};
 ghost use Rattle.std.specs.List.{list_all};
-ghost use Rattle.collector.specs.Status.{has_done, is_done_control, status};
+ghost use Rattle.collector.specs.Status.{done_status, has_done, is_done_control, not_done_status, run_status_code, status};
 
 use flow_core_laws::{ControlEnd, Ends, TaskEnd};
 
-/// Whether every activation and the control program are Done. The status of such a run is 0, that of every other one is 1.
-pub fn is_all_done(ends: &Ends, control: ControlEnd) -> bool
-    ensures { (if result then 0 else 1) ≡ status ends.now.ends control }
+/// The status of a run.
+#[derive(Clone, Copy, Debug)]
+pub enum RunStatus {
+    /// Every activation and the control program are Done.
+    AllDone,
+    /// The run ended otherwise.
+    NotAllDone,
+}
+
+/// The status of a run that came to this.
+pub fn run_status(ends: &Ends, control: ControlEnd) -> RunStatus
+    ensures { run_status_code result ≡ status ends.now.ends control }
+{
+    if is_all_done(ends, control) {
+        RunStatus::AllDone
+    } else {
+        RunStatus::NotAllDone
+    }
+}
+
+/// Whether every activation and the control program are Done.
+fn is_all_done(ends: &Ends, control: ControlEnd) -> bool
+    ensures { (if result then done_status else not_done_status) ≡ status ends.now.ends control }
 {
     have_done(ends.ends.as_slice()) && is_done_control(control)
 }
@@ -18,8 +38,8 @@ fn have_done(ends: &[Option<TaskEnd>]) -> bool
     ends.iter().all(has_done)
 }
 
-/// Whether an activation is Done.
-fn has_done(end: &Option<TaskEnd>) -> bool
+/// Whether an activation with this end, or none, is Done.
+pub fn has_done(end: &Option<TaskEnd>) -> bool
     ensures { result ≡ has_done end.now }
 {
     matches!(end, Some(TaskEnd::Done))

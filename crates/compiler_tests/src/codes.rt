@@ -7,7 +7,7 @@
 
 use crate::compiled::compile;
 use crate::texts::push;
-use os_code::{Code, Instr, Site, SiteItem, Unit};
+use os_code::{Code, CodeUnit, Instr, Site, SiteItem};
 use std::alloc::Global;
 use std::process::Abort;
 
@@ -73,8 +73,8 @@ fn write_instrs(rt: &impl Abort, text: &mut String, instrs: &[Instr]) {
     }
 }
 
-fn write_unit(rt: &impl Abort, text: &mut String, unit: &Unit) {
-    let Unit {
+fn write_unit(rt: &impl Abort, text: &mut String, unit: &CodeUnit) {
+    let CodeUnit {
         start,
         args,
         slots,

@@ -72,7 +72,7 @@ fn control_programs_of_each_form_run_as_they_mean(rt: HostRuntime) {
     }
 }
 
-/// A control program makes so many activations and ends so, and these are what it means where the budget is 1,000,000. The numbers were
+/// A control program makes as many activations and ends as its case says; where the budget is 1,000,000, it also makes what it means. The numbers were
 /// found by hand; `meaning_tests` holds what the program means against them too.
 fn counts_so(rt: &impl Abort, alloc: Global, case: &Counted) {
     let (text, input_len, budget, count, end) = *case;

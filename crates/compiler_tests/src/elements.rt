@@ -40,7 +40,7 @@ fn byte_at(place: usize) -> u8 {
     ((place % 256) as u8).wrapping_mul(37).wrapping_add(3)
 }
 
-/// Adds so many numbers: a byte and what is added to it.
+/// Adds `count` numbers, each a byte with `added` added to it.
 fn add_numbers(rt: &impl Abort, elements: &mut Vec<i32>, count: u32, added: i32)
     ensures { length elements.new.items ≡ length elements.old.items + count }
 {

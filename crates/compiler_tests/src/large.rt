@@ -6,7 +6,7 @@ use crate::texts::push;
 use std::alloc::Global;
 use std::process::Abort;
 
-/// Adds so many pieces, each of three parts with its number behind the first and behind the second.
+/// Adds `count` pieces, each of three parts with its number behind the first and behind the second.
 fn push_numbered(rt: &impl Abort, text: &mut String, parts: [&str; 3], count: u32) {
     let [first, second, third] = parts;
     for number in 0..count {
@@ -14,7 +14,7 @@ fn push_numbered(rt: &impl Abort, text: &mut String, parts: [&str; 3], count: u3
     }
 }
 
-/// A chain of so many `else if` in a task, which runs for some numbers of them.
+/// A chain of `count` branches `else if` in a task, which runs for some of their numbers.
 fn choices_text(rt: &impl Abort, alloc: Global, count: u32) -> String {
     let mut text = String::new(alloc);
     push(
@@ -28,7 +28,7 @@ fn choices_text(rt: &impl Abort, alloc: Global, count: u32) -> String {
     text
 }
 
-/// A task with eight items that captures so many scalars, all of which it names and changes.
+/// A task with eight items that captures `count` scalars, all of which it names and changes.
 fn captures_text(rt: &impl Abort, alloc: Global, count: u32) -> String {
     let mut text = String::new(alloc);
     push(

@@ -6,7 +6,7 @@ use os_lexer::lex;
 use std::alloc::Global;
 use std::process::Abort;
 
-/// A task with so many links `&& y` on its item, each of 2 tokens and 7 instructions: to leave out the right side or not,
+/// A task with `count` links `&& y` on its item, each of 2 tokens and 7 instructions: to leave out the right side or not,
 /// to load an element by its index, to look at it, and to give 1 or 0. Of links, changes, loops, calls, choices and
 /// declarations none was found that comes nearer to 8 a token.
 fn links_text(rt: &impl Abort, alloc: Global, count: u32) -> String {

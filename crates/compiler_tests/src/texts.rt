@@ -2,7 +2,7 @@
 
 use std::process::Abort;
 
-/// Adds so many copies of a piece to a text.
+/// Adds `count` copies of a piece to a text.
 pub(crate) fn push(rt: &impl Abort, text: &mut String, piece: &str, count: u32) {
     for _ in 0..count {
         text.push_str(piece).expect(rt, "memory");

@@ -1,6 +1,8 @@
 //! The claims that a `Spawn` makes, and what it captures.
 
 ghost use Rattle.std.specs.Prelude.{◌≡◌, ℕ, ◌*◌, ◌<◌, ◌≤◌, true, false, All, length, map, Some, pos, slice_index_or, IfOk};
+ghost use Rattle.os_ast.specs.Limits.{items_limit};
+ghost use Rattle.flow_core_laws.specs.Window.{horizon_sum};
 ghost use Rattle.os_code.specs.Machine as machine;
 ghost use Rattle.control_run.specs.Spawning.{HasWindow, with_claim_set, with_claims};
 
@@ -22,10 +24,10 @@ pub(crate) fn set_claims(
 ) -> Result<u32, Trap>
     requires windows { All (HasWindow (length slots.now)) items.now }
     requires pairs { length operands.now ≡ 2 * length items.now }
-    requires few { length items.now ≤ 8 }
+    requires few { length items.now ≤ items_limit }
     requires room { length claims.old ≡ length items.now }
     ensures claims { with_claims result claims.new ≡ machine.spawned_claims streams slots.now items.now operands.now }
-    ensures positions { IfOk result (λ positions. positions ≡ machine.horizon_sum claims.new) }
+    ensures positions { IfOk result (λ positions. positions ≡ horizon_sum claims.new) }
 {
     let mut positions: u32 = 0;
     for (k, item) in items.iter().enumerate() {
@@ -61,7 +63,7 @@ fn set_claim(
     }
 }
 
-/// The same of an output item: nothing writes the input, and the burst is the horizon.
+/// Sets the claim of an output item: nothing writes the input, and the burst is the horizon.
 #[inline(always)]
 fn set_output_claim(
     streams: u32,
@@ -95,7 +97,7 @@ fn set_output_claim(
     }
 }
 
-/// The same of an input item: nothing reads the output, and the burst is an amount.
+/// Sets the claim of an input item: nothing reads the output, and the burst is an amount.
 #[inline(always)]
 fn set_input_claim(
     streams: u32,

@@ -9,7 +9,7 @@
 //! call of `advance` appends the next ones, at most as many as it is asked for, and tells when no more come. Budget and
 //! limits are those of the whole run, however it is cut; and cutting it costs nothing, since the machine is kept, and
 //! nothing is kept of the activations but their number and what the limits and ticks need. Activations that are run no more
-//! can be handed back by `reuse`: the next ones are made in their places.
+//! can be handed back by `reuse`: the next ones are made in their places. `take_out` takes an activation out of any list, to be moved to another.
 //!
 //! The loop stands in `running`, and in `together` what it does in one turn where several instructions mostly stand together; what
 //! it shares with the loop of tasks are the pieces of `task_vm::registers`.
@@ -30,4 +30,5 @@ mod ticked;
 mod together;
 
 pub use control::run_control;
+pub use places::take_out;
 pub use stretches::ControlRun;

@@ -7,7 +7,7 @@ use crate::made::Made;
 use crate::running::{Stopped, run};
 use crate::spare::Spare;
 use flow_core_laws::Activation;
-use os_code::{Code, Unit};
+use os_code::{Code, CodeUnit};
 use os_io::{List, Memory};
 use std::alloc::Global;
 use task_vm::registers::{Caller, Registers};
@@ -32,7 +32,7 @@ impl Machine {
     pub fn new(
         alloc: Global,
         code: &Code,
-        unit: Unit,
+        unit: CodeUnit,
         input_len: u32,
         budget: u64,
     ) -> Result<Machine, Memory>
@@ -66,7 +66,7 @@ impl Machine {
             made: Made::new(alloc, code.streams)?,
         })
     }
-    /// Goes on until so many activations are added to the list, at least one, or the run has ended: then it answers how.
+    /// Goes on until `at_most` activations, at least one, are added to the list, or the run has ended: then it answers how.
     /// After `Memory` the list has some of the next activations, and the machine stands nowhere.
     pub fn go_on(
         &mut self,
@@ -107,7 +107,7 @@ impl Machine {
     }
 }
 
-/// Puts the activations that were made since so many behind those of a list. After `Memory` it counts those that it could put there.
+/// Puts the activations that were made from the one numbered `from` on behind those of a list. After `Memory` it counts those that it could put there.
 fn hand_over(
     alloc: Global,
     from: u32,

@@ -19,7 +19,7 @@ pub(crate) struct Made {
 }
 
 impl Made {
-    /// Nothing yet, over so many streams.
+    /// Nothing yet, over `streams` streams.
     pub fn new(alloc: Global, streams: u32) -> Result<Made, Memory>
         ensures { IfOk result (λ made. made ≡ record { created = 0; skips = replicate streams 0; horizons = 0 }) }
     {
@@ -30,7 +30,7 @@ impl Made {
         })
     }
 
-    /// The limit that an activation would pass whose windows cover so many positions.
+    /// The limit that an activation would pass whose windows cover `horizons` positions.
     pub fn limit(&self, horizons: u32) -> Option<ControlLimit>
         requires { self.now.horizons + horizons < 2 ^ 32 }
         ensures { result ≡ limit_of self.now.created (self.now.horizons + horizons) }

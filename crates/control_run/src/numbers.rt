@@ -36,7 +36,7 @@ pub(crate) fn is_equal(number: i32, other: i32) -> bool
     number == other
 }
 
-/// The stream that is picked by an index from a first one on: one of so many, and not the one that is forbidden.
+/// The stream that is picked by an index from a first one on: one of `streams` streams, and not the one that is forbidden.
 #[inline(always)]
 pub(crate) fn stream_of(streams: u32, forbidden: u32, first: u32, index: i32) -> Option<u32>
     ensures { result ≡ machine.stream_of streams forbidden first index }

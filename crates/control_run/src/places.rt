@@ -1,10 +1,12 @@
 //! Places of a list of activations, where others are made.
 
 ghost use Rattle.std.specs.Prelude.{◌≡◌, ◌+◌, ◌-◌, ◌^◌, ◌++◌, ◌<◌, ◌≤◌, true, IfOk, IfSome, OnOk, Some, drop, length, slice_get, slice_set, take};
+ghost use Rattle.os_ast.specs.Limits.{items_limit};
 ghost use Rattle.control_run.specs.Spawning.{HasShape, no_activation};
 ghost use Rattle.control_run.specs.Sparing.{FitsAt};
 
 use flow_core_laws::{Activation, Claim};
+use os_ast::ITEMS_LIMIT;
 use os_io::{List, Memory};
 use std::alloc::Global;
 use std::mem;
@@ -31,7 +33,7 @@ pub(crate) fn make_place(
     captured: usize,
     claims: usize,
 ) -> Result<(), Memory>
-    requires few { claims ≤ 8 }
+    requires few { claims ≤ items_limit }
     requires there { place ≤ length activations.old }
     ensures kept { take place activations.new ≡ take place activations.old }
     ensures there { place ≤ length activations.new }
@@ -53,7 +55,7 @@ fn has_shape(one: &Activation, captured: usize, claims: usize) -> bool
     one.captured.len() == captured && one.claims.len() == claims
 }
 
-/// The same where the one that is there doesn't fit, or none is there.
+/// Sees to it as `make_place` does, where the activation that is there doesn't fit, or none is there.
 #[inline(never)]
 fn find_other(
     alloc: Global,
@@ -62,7 +64,7 @@ fn find_other(
     captured: usize,
     claims: usize,
 ) -> Result<(), Memory>
-    requires few { claims ≤ 8 }
+    requires few { claims ≤ items_limit }
     requires there { place ≤ length activations.old }
     ensures kept { take place activations.new ≡ take place activations.old }
     ensures there { place ≤ length activations.new }
@@ -125,17 +127,17 @@ fn put_at(
 
 /// An activation with new lists of these lengths.
 fn blank(alloc: Global, captured: usize, claims: usize) -> Result<Activation, Memory>
-    requires few { claims ≤ 8 }
+    requires few { claims ≤ items_limit }
     ensures { IfOk result (HasShape captured claims) }
 {
     Ok(Activation {
         site: 0,
         captured: zeros(alloc, captured)?,
-        claims: List::from_slice(alloc, &[BLANK; 8][..claims])?,
+        claims: List::from_slice(alloc, &[BLANK; ITEMS_LIMIT][..claims])?,
     })
 }
 
-/// A list of so many zeros.
+/// A list of `count` zeros.
 fn zeros(alloc: Global, count: usize) -> Result<List<i32>, Memory>
     ensures { IfOk result (λ numbers. length numbers ≡ count) }
 {
@@ -171,8 +173,9 @@ pub(crate) fn move_some(
     count
 }
 
-/// Takes an activation out of a list, and leaves an empty one in its place.
-fn take_out(alloc: Global, activations: &mut List<Activation>, place: usize) -> Activation
+/// Takes the activation at a place out of a list, to be moved without a copy, and leaves an empty one there: of site 0, without captured values
+/// and claims. It takes no memory.
+pub fn take_out(alloc: Global, activations: &mut List<Activation>, place: usize) -> Activation
     requires { place < length activations.old }
     ensures taken { slice_get activations.old place ≡ Some result }
     ensures left { activations.new ≡ slice_set activations.old place no_activation }

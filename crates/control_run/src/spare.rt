@@ -2,6 +2,7 @@
 
 ghost use Rattle.std.specs.Prelude.{◌≡◌, ◌+◌, ◌++◌, ◌*◌, ◌<◌, ◌≤◌, [], All, IfOk, IfSome, OnErr, OnOk, length, map, pos, slice_index_or, take};
 ghost use Rattle.flow_core_laws.specs.Limits.{activations_limit, positions_limit};
+ghost use Rattle.os_ast.specs.Limits.{items_limit};
 ghost use Rattle.os_code.specs.Machine.{spawned_claims};
 ghost use Rattle.control_run.specs.Spawning.{HasWindow, spawn_end, spawn_list, spawn_made};
 
@@ -72,7 +73,7 @@ impl Spare {
         requires windows { All (HasWindow (length slots.now)) site.now.items }
         requires captured { All (λ slot. slot < length slots.now) site.now.captured }
         requires pairs { length operands.now ≡ 2 * length site.now.items }
-        requires few { length site.now.items ≤ 8 }
+        requires few { length site.now.items ≤ items_limit }
         requires streams { length made.old.skips ≡ streams }
         requires positions { made.old.horizons ≤ positions_limit }
         requires activations { made.old.created ≤ activations_limit }

@@ -1,5 +1,6 @@
 ghost use Rattle.std.specs.Prelude.{◌≡◌, ◌*◌, ◌<◌, ◌≤◌, [], All, length, map, pos, slice_index_or};
 ghost use Rattle.flow_core_laws.specs.Limits.{activations_limit, positions_limit};
+ghost use Rattle.os_ast.specs.Limits.{items_limit};
 ghost use Rattle.os_code.specs.Machine.{spawned_claims};
 ghost use Rattle.control_run.specs.Spawning.{HasShape, HasWindow, one_unless, spawn_end, spawn_list, spawn_made};
 
@@ -23,7 +24,7 @@ pub(crate) fn set_activation(
     requires windows { All (HasWindow (length slots.now)) site.now.items }
     requires captured { All (λ slot. slot < length slots.now) site.now.captured }
     requires pairs { length operands.now ≡ 2 * length site.now.items }
-    requires few { length site.now.items ≤ 8 }
+    requires few { length site.now.items ≤ items_limit }
     requires streams { length made.old.skips ≡ streams }
     requires positions { made.old.horizons ≤ positions_limit }
     requires activations { made.old.created ≤ activations_limit }

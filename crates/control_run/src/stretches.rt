@@ -42,7 +42,7 @@ impl<'c> ControlRun<'c> {
     ghost use Rattle.stream_match_layouts.specs.Lawful.{AreLawful};
     ghost use Rattle.control_run.specs.Stretches.{IsPartOfStretch, StepsTold, TurnsTold, advanced, created_so_far, end_told, not_begun, remaining, whole};
 
-    /// A run that has not begun. The input has so many bytes; the budget is in turns: each iteration of a loop, each call
+    /// A run that has not begun. The input has `input_len` bytes; the budget is in turns: each iteration of a loop, each call
     /// and each tick takes one. It takes memory for what the longest chain of calls needs, and a number for each stream.
     pub fn new(
         alloc: Global,
@@ -75,7 +75,7 @@ impl<'c> ControlRun<'c> {
         self.spare = Spare::of(ended);
     }
 
-    /// Appends the next activations, so many, or all that remain where fewer do. It answers true exactly where fewer
+    /// Appends the next `at_most` activations, or all that remain where fewer do. It answers true exactly where fewer
     /// remained: the run has then ended. All calls together end within `(budget + 1) * (code length + 1)` steps. It
     /// takes memory for each activation, its captured values and its claims. After `Memory` the list has some of these
     /// activations, and the run is to be given up: it answers `Memory` from then on.

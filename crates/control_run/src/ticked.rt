@@ -27,7 +27,7 @@ impl Model for Ticked {
 }
 
 impl Ticked {
-    /// Nothing yet, of so many streams.
+    /// Nothing yet, of `streams` streams.
     pub fn new(alloc: Global, streams: u32) -> Result<Ticked, Memory>
         ensures { IfOk result (λ ticked. ticked ≡ replicate streams 0) }
     {
@@ -62,7 +62,7 @@ impl Ticked {
     }
 }
 
-/// A list of nothing taken, of so many streams.
+/// A zero for each of `streams` streams: nothing is taken of them.
 fn nothing_of(alloc: Global, streams: u32) -> Result<List<u64>, Memory>
     ensures { IfOk result (λ amounts. amounts ≡ replicate streams 0) }
 {

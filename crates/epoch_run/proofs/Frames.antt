@@ -8,7 +8,7 @@ use Rattle.std.proofs.lemmas.Option.{get_or_from_slice_get, slice_get_within}
 use Rattle.flow_core_epochs.proofs.Carried.{all_has, has_all, is_producer, wrote}
 use Rattle.flow_core_epochs.proofs.Members.{Has, in_map, of_filter, of_flat_map, of_map}
 use Rattle.flow_core_epochs.specs.Epoch as epoch
-use Rattle.flow_core_epochs.specs.Epoch.{IsOutside, leaving_places, number_in, open_in, read_from, written_places}
+use Rattle.flow_core_epochs.specs.Epoch.{IsOutside, leaving_places, number_among, open_in, read_from, written_places}
 use Rattle.flow_core_laws.proofs.Filtered.{filtered_ascends, filtered_each}
 use Rattle.flow_core_laws.specs.Outcome.{outcome_at}
 use Rattle.flow_core_laws.specs.Place as streams
@@ -16,7 +16,7 @@ use Rattle.flow_core_laws.specs.Place.{places_of}
 use Rattle.flow_core_laws.specs.Window.{Window, producer, windows_of}
 use Rattle.flow_core_laws.specs.declared.activation.Activation.{Activation}
 use Rattle.stream_match.proofs.Lowering.{streams_exist}
-use Rattle.stream_match.specs.EpochPlan.{AreFrames}
+use Rattle.stream_match.specs.EpochPlan.{AscendInLayout}
 use Rattle.stream_match.specs.Kept.{kept_of}
 use Rattle.stream_match.specs.declared.kept.Kept.{Kept}
 use Rattle.stream_match_layouts.proofs.FrameSpans.{spans_of-windows}
@@ -27,13 +27,13 @@ use Rattle.stream_match_layouts.specs.declared.layout.Layout.{Layout}
 use Rattle.stream_match_layouts.specs.declared.span.Span.{Span}
 
 -- activations without an outcome ascend
-pub are_frames : {O : Type 0} (layout : Layout) (state : List (Option O)) (count : ℕ) → frame_count layout ≡ count → AreFrames layout (open_in state count)
+pub are_frames : {O : Type 0} (layout : Layout) (state : List (Option O)) (count : ℕ) → frame_count layout ≡ count → AscendInLayout layout (open_in state count)
 are_frames layout state count is = record {
   exist = λ i lt. let p = filtered_each (λ a. is_none (outcome_at state a)) 0 count i lt in let high = p.high in omega arith;
   ascend = λ i j less lt. filtered_ascends (λ a. is_none (outcome_at state a)) 0 count i j less lt;
 }
 
-module _ (layout : Layout) (frames : List ℕ) (are : AreFrames layout frames) where
+module _ (layout : Layout) (frames : List ℕ) (are : AscendInLayout layout frames) where
   pub frame_exists : (f a : ℕ) → slice_get frames f ≡ Some a → a < frame_count layout
   frame_exists f a at = subst (λ b. b < frame_count layout) (get_or_from_slice_get frames f a 0 at) (are.exist f (slice_get_within frames f a at))
 
@@ -86,5 +86,5 @@ module _ (layout : Layout) (is : IsLayout layout) (activations : List Activation
       each : (k : Kept) → Has kept k → k.stream < length layout.writers
       each k h =
           let p : streams.Place = record { stream = k.stream; position = k.position } in
-          let (w, found, other) = all_has (λ (l : epoch.Kept). (w : Window) × (producer activations l.place.stream l.place.position ≡ Some w) × (number_in frames w.activation ≡ None)) (map kept_of kept) (kept_of k) outside.written_outside (in_map kept_of kept k h) in
+          let (w, found, other) = all_has (λ (l : epoch.Kept). (w : Window) × (producer activations l.place.stream l.place.position ≡ Some w) × (number_among frames w.activation ≡ None)) (map kept_of kept) (kept_of k) outside.written_outside (in_map kept_of kept k h) in
           written_exists w.activation p (is_producer activations k.stream k.position w found).exists (wrote activations p w found)

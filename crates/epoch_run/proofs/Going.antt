@@ -16,7 +16,7 @@ use Rattle.flow_core_laws.specs.declared.control.Control.{Control}
 use Rattle.flow_core_laws.specs.declared.control.ControlEnd.{ControlEnd}
 use Rattle.flow_core_laws.specs.declared.task_end.TaskEnd.{TaskEnd}
 use Rattle.os_code.specs.Codes.{parts_of}
-use Rattle.os_code.specs.Outcomes.{control}
+use Rattle.os_code.specs.Outcomes.{main_control}
 use Rattle.os_code.specs.Tasks.{Fits}
 use Rattle.os_code.specs.declared.code.Code.{Code}
 use Rattle.os_code.specs.declared.parts.Parts.{Parts}
@@ -102,20 +102,20 @@ module _ (code : Code) (input : List ℕ) (budgets : Budgets) where
     pub whole_layout : IsLayout run.layout
     whole_layout = record { has_output = omega (arith, stands.streams, stands.has_output); activations = all; is_of = stands.laid; lawful = lawful }
 
-    whole_now : whole run.control ≡ control (parts_of code) (length input) budgets.control
+    whole_now : whole run.control ≡ main_control (parts_of code) (length input) budgets.control
     whole_now =
-        ap (λ p. control p run.control.input_len run.control.budget) stands.code_is
-        ∙ ap (λ n. control (parts_of code) n run.control.budget) stands.input_is
-        ∙ ap (control (parts_of code) (length input)) stands.budget_is
+        ap (λ p. main_control p run.control.input_len run.control.budget) stands.code_is
+        ∙ ap (λ n. main_control (parts_of code) n run.control.budget) stands.input_is
+        ∙ ap (main_control (parts_of code) (length input)) stands.budget_is
 
     -- as many of those that are created as the layout has
     pub first_created : (count input_len : ℕ) → count ≡ frame_count run.layout → input_len ≡ length input
-        → take count (control (parts_of code) input_len budgets.control).activations ≡ all
+        → take count (main_control (parts_of code) input_len budgets.control).activations ≡ all
     first_created count input_len as_many long =
-        ap (λ n. take count (control (parts_of code) n budgets.control).activations) long
+        ap (λ n. take count (main_control (parts_of code) n budgets.control).activations) long
         ∙ ap (λ (c : Control). take count c.activations) (sym whole_now)
-        ∙ ap (λ n. take n (whole run.control).activations) (as_many ∙ frame_count-is run.layout all stands.laid ∙ length-take run.control.given (whole run.control).activations)
-        ∙ take_min run.control.given (whole run.control).activations
+        ∙ ap (λ n. take n (whole run.control).activations) (as_many ∙ frame_count-is run.layout all stands.laid ∙ length-take run.control.created_by_now (whole run.control).activations)
+        ∙ take_min run.control.created_by_now (whole run.control).activations
 
     -- the next epoch is open
     pub opens : (slice : List Activation) → slice ≡ all → IsOpenEpoch code slice budgets.task run.layout input run.held
@@ -175,7 +175,7 @@ module _ (code : Code) (input : List ℕ) (budgets : Budgets) where
       pub takes_more : TakesMore run.layout next
       takes_more = record { before = all; is_of = stands.laid; lawful = subst (λ n. AreLawful n (all ++ next)) (sym stands.streams) all_lawful }
 
-      whole_is : whole after ≡ control (parts_of code) (length input) budgets.control
+      whole_is : whole after ≡ main_control (parts_of code) (length input) budgets.control
       whole_is = ap whole made.is_run ∙ whole_now
 
       -- the run after the epoch
@@ -227,6 +227,6 @@ module _ (code : Code) (input : List ℕ) (budgets : Budgets) where
       all_created None told = tt
       all_created (Some e) told = made.all (ended_so e told).0 ∙ ap (λ (c : Control). c.activations) whole_is
 
-      pub end_is : (end : Option ControlEnd) → end ≡ end_told after → IfSome end (λ e. e ≡ (control (parts_of code) (length input) budgets.control).end)
+      pub end_is : (end : Option ControlEnd) → end ≡ end_told after → IfSome end (λ e. e ≡ (main_control (parts_of code) (length input) budgets.control).end)
       end_is None told = tt
       end_is (Some e) told = (ended_so e told).1 ∙ ap (λ (c : Control). c.end) whole_is

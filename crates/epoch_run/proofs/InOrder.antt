@@ -23,7 +23,7 @@ use Rattle.flow_core_laws.specs.declared.control.ControlEnd.{ControlEnd}
 use Rattle.flow_core_laws.specs.declared.outcome.Outcome.{Outcome}
 use Rattle.flow_core_laws.specs.declared.task_end.TaskEnd.{TaskEnd}
 use Rattle.os_code.specs.Codes.{parts_of}
-use Rattle.os_code.specs.Outcomes.{control}
+use Rattle.os_code.specs.Outcomes.{main_control}
 use Rattle.os_code.specs.Tasks.{Fits}
 use Rattle.os_code.specs.declared.code.Code.{Code}
 use Rattle.os_code.specs.declared.parts.Parts.{Parts}
@@ -114,18 +114,18 @@ module _ (code : Code) (input : List ℕ) (budgets : Budgets) where
     pub is_whole : IsLayout layout
     is_whole = record { has_output = omega (arith, laid.streams, laid.has_output); activations = given; is_of = laid.laid; lawful = lawful_there }
 
-    pub whole_is : whole so_far ≡ control (parts_of code) (length input) budgets.control
+    pub whole_is : whole so_far ≡ main_control (parts_of code) (length input) budgets.control
     whole_is =
-        ap (λ p. control p so_far.input_len so_far.budget) laid.code_is
-        ∙ ap (λ n. control (parts_of code) n so_far.budget) laid.input_is
-        ∙ ap (control (parts_of code) (length input)) laid.budget_is
+        ap (λ p. main_control p so_far.input_len so_far.budget) laid.code_is
+        ∙ ap (λ n. main_control (parts_of code) n so_far.budget) laid.input_is
+        ∙ ap (main_control (parts_of code) (length input)) laid.budget_is
 
     -- they are the first of all that will come
     pub are_first : given ≡ take (length given) all
     are_first =
         sym (ap (λ (c : Control). take (length given) c.activations) (sym whole_is)
-        ∙ ap (λ n. take n (whole so_far).activations) (length-take so_far.given (whole so_far).activations)
-        ∙ take_min so_far.given (whole so_far).activations)
+        ∙ ap (λ n. take n (whole so_far).activations) (length-take so_far.created_by_now (whole so_far).activations)
+        ∙ take_min so_far.created_by_now (whole so_far).activations)
 
     abbrev rest : ℕ → List Activation
     rest count = drop count given ++ drop (length given) all
@@ -258,7 +258,7 @@ module _ (code : Code) (input : List ℕ) (budgets : Budgets) where
   are_next run order goes first slice is = record {
     whole = is_whole run.control run.layout goes.laid_out;
     streams = goes.laid_out.streams;
-    given = given_so;
+    in_layout = given_so;
     is_of = goes.laid_out.laid;
     within = goes.within;
     are_next = next_is;
@@ -395,11 +395,11 @@ module _ (code : Code) (input : List ℕ) (budgets : Budgets) where
         by true ended = told ended ∙ ap (λ (c : Control). c.activations) (whole_is so_far layout laid)
         by false ended = let z : Some e ≡ None = is ∙ ap (λ b. cond b (Some (whole so_far).end) None) ended in absurd (cc)
 
-    pub end_is_told : (end : Option ControlEnd) → end ≡ end_told so_far → IfSome end (λ e. e ≡ (control (parts_of code) (length input) budgets.control).end)
+    pub end_is_told : (end : Option ControlEnd) → end ≡ end_told so_far → IfSome end (λ e. e ≡ (main_control (parts_of code) (length input) budgets.control).end)
     end_is_told None is = tt
     end_is_told (Some e) is = by so_far.has_ended refl
       where
-        by : (b : Bool) → so_far.has_ended ≡ b → e ≡ (control (parts_of code) (length input) budgets.control).end
+        by : (b : Bool) → so_far.has_ended ≡ b → e ≡ (main_control (parts_of code) (length input) budgets.control).end
         by true ended =
             let z : Some e ≡ Some (whole so_far).end = is ∙ ap (λ b. cond b (Some (whole so_far).end) None) ended in
             let s : e ≡ (whole so_far).end = cc in

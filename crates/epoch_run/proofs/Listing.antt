@@ -9,7 +9,7 @@ use Rattle.std.proofs.lemmas.List.Elements.{filter-append, filter_agree}
 use Rattle.std.proofs.lemmas.List.FromFn.{get_or-map-range_with_len, length-map-range_with_len}
 use Rattle.flow_core_epochs.proofs.Frames.{numbers_back, open_all}
 use Rattle.flow_core_epochs.proofs.Putting.{open_more, open_with}
-use Rattle.flow_core_epochs.specs.Epoch.{number_in, open_in, put_over}
+use Rattle.flow_core_epochs.specs.Epoch.{number_among, open_in, put_over}
 use Rattle.flow_core_laws.specs.Outcome.{has_end_at, outcome_at}
 use Rattle.flow_core_laws.specs.declared.task_end.TaskEnd.{TaskEnd}
 
@@ -41,9 +41,9 @@ still : {O : Type 0} (ends : List (Option O)) (frames : List ℕ) (run : List (O
 still {O = O} ends frames run count waits = below ends (put_over ends frames run count) count keeps count (omega arith)
   where
     after : ℕ → Option O
-    after a = option_map_or (outcome_at run) (number_in frames a) (outcome_at ends a)
+    after a = option_map_or (outcome_at run) (number_among frames a) (outcome_at ends a)
 
-    no_frame : (a : ℕ) (m : Option ℕ) → number_in frames a ≡ m → is_none (outcome_at ends a) ≡ false → after a ≡ outcome_at ends a
+    no_frame : (a : ℕ) (m : Option ℕ) → number_among frames a ≡ m → is_none (outcome_at ends a) ≡ false → after a ≡ outcome_at ends a
     no_frame a None is ended = ap (λ (m : Option ℕ). option_map_or (outcome_at run) m (outcome_at ends a)) is
     no_frame a (Some f) is ended =
         let no : true ≡ false = sym (ap is_none (waits f a (numbers_back frames a f is))) ∙ ended in
@@ -52,7 +52,7 @@ still {O = O} ends frames run count waits = below ends (put_over ends frames run
     keeps : (a : ℕ) → a < count → is_none (outcome_at ends a) ≡ false → is_none (outcome_at (put_over ends frames run count) a) ≡ false
     keeps a lt ended =
         ap is_none (get_or-map-range_with_len after 0 count a a None lt (omega arith))
-        ∙ ap is_none (no_frame a (number_in frames a) refl ended)
+        ∙ ap is_none (no_frame a (number_among frames a) refl ended)
         ∙ ended
 
 pub still_listed : {O : Type 0} (ends : List (Option O)) (frames : List ℕ) (run after : List (Option O)) (readers : List ℕ) (count : ℕ)
@@ -94,11 +94,11 @@ none_ended {O = O} ends frames run after readers count few are put none =
     same a = elim (cases_lt a count) [
       | inl lt ↦ (
           ap (λ (es : List (Option O)). outcome_at es a) none_put
-          ∙ get_or-map-range_with_len (λ b. option_map_or (outcome_at run) (number_in [] b) (outcome_at ends b)) 0 count a a None lt (omega arith)
+          ∙ get_or-map-range_with_len (λ b. option_map_or (outcome_at run) (number_among [] b) (outcome_at ends b)) 0 count a a None lt (omega arith)
           )
       | inr ge ↦ (
           ap (λ (es : List (Option O)). outcome_at es a) none_put
-          ∙ get_or_past (put_over ends [] run count) a None (omega (arith, ge, length-map-range_with_len (λ b. option_map_or (outcome_at run) (number_in [] b) (outcome_at ends b)) 0 count))
+          ∙ get_or_past (put_over ends [] run count) a None (omega (arith, ge, length-map-range_with_len (λ b. option_map_or (outcome_at run) (number_among [] b) (outcome_at ends b)) 0 count))
           ∙ sym (get_or_past ends a None (omega (arith, ge, few)))
           )
     ]

@@ -8,7 +8,7 @@ use Rattle.std.proofs.lemmas.List.{drop_all, drop-drop, get_or_append_left, get_
 use Rattle.std.proofs.lemmas.List.Edits.{length-between}
 use Rattle.std.proofs.lemmas.List.Recursion.{is_position_or_len}
 use Rattle.std.proofs.lemmas.List.FromFn.{get_or-map-range_with_len, length-map-range_with_len}
-use Rattle.flow_core_epochs.specs.Epoch.{is_output_at, number_in, output_over, put_over}
+use Rattle.flow_core_epochs.specs.Epoch.{is_output_at, number_among, output_over, put_over}
 use Rattle.flow_core_laws.specs.declared.elem.Elem.{Elem}
 use Rattle.flow_core_laws.specs.Outcome.{outcome_at}
 use Rattle.flow_core_laws.specs.Place.{Place, places_from}
@@ -33,9 +33,9 @@ same_range f g a (suc n) same =
 pub put_over_same : {O : Type 0} (old mid : List (Option O)) (frames : List ℕ) (run : List (Option O)) (n : ℕ) → ((at : ℕ) → outcome_at mid at ≡ outcome_at old at)
     → put_over mid frames run n ≡ put_over old frames run n
 put_over_same old mid frames run n same =
-    same_range (λ a. option_map_or (outcome_at run) (number_in frames a) (outcome_at mid a))
-    (λ a. option_map_or (outcome_at run) (number_in frames a) (outcome_at old a)) 0 n
-    (λ k low high. ap (option_map_or (outcome_at run) (number_in frames k)) (same k))
+    same_range (λ a. option_map_or (outcome_at run) (number_among frames a) (outcome_at mid a))
+    (λ a. option_map_or (outcome_at run) (number_among frames a) (outcome_at old a)) 0 n
+    (λ k low high. ap (option_map_or (outcome_at run) (number_among frames k)) (same k))
 
 pub output_over_same : (old mid : List (Option Elem)) (places : List Place) (values : List (Option Elem)) (n : ℕ) → ((at : ℕ) → outcome_at mid at ≡ outcome_at old at)
     → output_over mid places values n ≡ output_over old places values n

@@ -11,7 +11,6 @@ use Rattle.epoch_run_shares.specs.Share.{IsShare}
 use Rattle.flow_core_laws.specs.declared.activation.Activation.{Activation}
 use Rattle.flow_core_laws.specs.declared.control.Control.{Control}
 use Rattle.os_code.specs.Codes.{parts_of}
-use Rattle.os_code.specs.Outcomes.{control}
 use Rattle.os_code.specs.declared.code.Code.{Code}
 use Rattle.os_code.specs.Tasks.{Fits}
 use Rattle.stream_match_layouts.specs.Lawful.{AreLawful}
@@ -161,14 +160,14 @@ module _ (code : Code) (input : List ℕ) (budgets : Budgets) where
     all = ran.all;
   }
 
--- a stretch has so many, where so many remain
+-- a stretch has `count` activations, where as many remain
 module _ (count : ℕ) (before after : RunSoFar) (next : List Activation) (made : HasCreated count before after [] next) where
   pub same_whole : length (whole after).activations ≡ length (whole before).activations
   same_whole = ap (λ (r : RunSoFar). length (whole r).activations) made.is_run
 
   pub grows_by : length (created_so_far before) + count ≤ length (whole before).activations → length (created_so_far after) ≡ length (created_so_far before) + count
   grows_by within =
-      let w = sym (ap length (take-append-drop before.given (whole before).activations)) ∙ length-append (created_so_far before) (remaining before) in
+      let w = sym (ap length (take-append-drop before.created_by_now (whole before).activations)) ∙ length-append (created_so_far before) (remaining before) in
       let l = ap length made.joined ∙ length-append (created_so_far before) (take count (remaining before)) in
       let n = length-take-le count (remaining before) (omega (arith, w, within)) in
       omega (arith, l, n)

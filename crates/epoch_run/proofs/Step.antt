@@ -12,7 +12,7 @@ use Rattle.std.proofs.lemmas.Option.{slice_get-get_or}
 use Rattle.epoch_run_bodies.specs.Frames.{TakesFrame, frame_outcome}
 use Rattle.epoch_run_bodies.specs.Laws.{LaterActivationsChangeNothing}
 use Rattle.flow_core_epochs.specs.Epoch as epoch
-use Rattle.flow_core_epochs.specs.Epoch.{IsCarried, IsEpoch, IsHeld, IsOutside, LeaveOutWaiting, ReadNoOutput, ServesAll, StandsForEpoch, carried_over, epoch_meaning, number_in, open_in, output_over, put_over}
+use Rattle.flow_core_epochs.specs.Epoch.{IsCarried, IsEpoch, IsHeld, IsOutside, LeaveOutWaiting, ReadNoOutput, ServesAll, StandsForEpoch, carried_over, epoch_meaning, number_among, open_in, output_over, put_over}
 use Rattle.flow_core_epochs.proofs.Choosing.{end_in}
 use Rattle.flow_core_epochs.proofs.Prefixes.{prefix_extends}
 use Rattle.flow_core_epochs.proofs.Serving.{serves_frames}
@@ -36,7 +36,7 @@ use Rattle.flow_core_laws.specs.declared.plan.Plan.{Plan}
 use Rattle.flow_core_laws.specs.declared.task_end.TaskEnd.{TaskEnd}
 use Rattle.os_code.specs.declared.code.Code.{Code}
 use Rattle.os_code.specs.declared.parts.Parts.{Parts}
-use Rattle.stream_match.specs.EpochPlan.{AreFrames}
+use Rattle.stream_match.specs.EpochPlan.{AscendInLayout}
 use Rattle.stream_match.specs.Kept.{IsKeptOutside, kept_of}
 use Rattle.stream_match.specs.declared.kept.Kept.{Kept}
 use Rattle.stream_match_layouts.proofs.Sums.{write_total}
@@ -181,7 +181,7 @@ module _ (layout : Layout) (whole : IsLayout layout) (code : Parts) (activations
   no_output : ReadNoOutput all
   no_output = λ k d lt reads. (all_lawful.claims_are_lawful k d lt).output_is_written reads
 
-  pub frames_are : AreFrames layout frames
+  pub frames_are : AscendInLayout layout frames
   frames_are = record {
     exist = λ i lt. let h = (leave.are_open i (get_or frames i 0) (slice_get-get_or frames i 0 lt)).0 in omega (arith, frame_count-is layout activations laid);
     ascend = λ i j less lt. leave.ascend i j (get_or frames i 0) (get_or frames j 0) less (slice_get-get_or frames i 0 (omega arith)) (slice_get-get_or frames j 0 lt);
@@ -283,7 +283,7 @@ module _ (layout : Layout) (whole : IsLayout layout) (code : Parts) (activations
             subst (λ (xs : List Activation). IsHeldOf code xs input budget after) (sym is.are_all) (record { is_meant = over; are_open = are_open ∙ ap (open_in after.ends.ends) (sym as_many) })
           where
             as_many : length after.ends.ends ≡ frame_count layout
-            as_many = ap length ends_put ∙ length-map-range_with_len (λ a. option_map_or (outcome_at run.ends) (number_in frames a) (outcome_at held.ends.ends a)) 0 (frame_count layout)
+            as_many = ap length ends_put ∙ length-map-range_with_len (λ a. option_map_or (outcome_at run.ends) (number_among frames a) (outcome_at held.ends.ends a)) 0 (frame_count layout)
 
             same_body : frame_outcome code activations budget ≡ body
             same_body = ap (λ (xs : List Activation). frame_outcome code xs budget) is.are_all

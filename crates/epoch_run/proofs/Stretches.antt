@@ -18,8 +18,8 @@ module _ (m n : ℕ) (before between after : RunSoFar) (list longer longest : Li
   rest : remaining between ≡ drop m (remaining before)
   rest =
       ap remaining one.is_run
-      ∙ ap (λ k. drop (before.given + k) (whole before).activations) (length-take-le m (remaining before) many)
-      ∙ sym (drop-drop m before.given (whole before).activations)
+      ∙ ap (λ k. drop (before.created_by_now + k) (whole before).activations) (length-take-le m (remaining before) many)
+      ∙ sym (drop-drop m before.created_by_now (whole before).activations)
 
   left : length (remaining between) + m ≡ length (remaining before)
   left = let e = ap length rest ∙ length-drop m (remaining before) in omega (arith, e, many)
@@ -34,18 +34,18 @@ module _ (m n : ℕ) (before between after : RunSoFar) (list longer longest : Li
   both : take (m + n) (remaining before) ≡ take m (remaining before) ++ take n (remaining between)
   both = take-add m n (remaining before) ∙ ap (λ xs. take m (remaining before) ++ take n xs) (sym rest)
 
-  given : between.given + length (take n (remaining between)) ≡ before.given + length (take (m + n) (remaining before))
+  given : between.created_by_now + length (take n (remaining between)) ≡ before.created_by_now + length (take (m + n) (remaining before))
   given =
       let e = ap length both ∙ length-append (take m (remaining before)) (take n (remaining between)) in
-      let b = ap (λ (r : RunSoFar). r.given) one.is_run in
+      let b = ap (λ (r : RunSoFar). r.created_by_now) one.is_run in
       omega (arith, e, b)
 
   is_run : after ≡ advanced before (m + n)
   is_run =
       two.is_run
-      ∙ ap (λ (r : RunSoFar). record r { given = between.given + length (take n (remaining between)); has_ended = nat_lt (length (remaining between)) n }) one.is_run
-      ∙ ap (λ k. record before { given = k; has_ended = nat_lt (length (remaining between)) n }) given
-      ∙ ap (λ b. record before { given = before.given + length (take (m + n) (remaining before)); has_ended = b }) fewer
+      ∙ ap (λ (r : RunSoFar). record r { created_by_now = between.created_by_now + length (take n (remaining between)); has_ended = nat_lt (length (remaining between)) n }) one.is_run
+      ∙ ap (λ k. record before { created_by_now = k; has_ended = nat_lt (length (remaining between)) n }) given
+      ∙ ap (λ b. record before { created_by_now = before.created_by_now + length (take (m + n) (remaining before)); has_ended = b }) fewer
 
   behind : (xs : List Activation) → (xs ++ take m (remaining before)) ++ take n (remaining between) ≡ xs ++ take (m + n) (remaining before)
   behind xs = append_assoc xs (take m (remaining before)) (take n (remaining between)) ∙ ap (λ ys. xs ++ ys) (sym both)

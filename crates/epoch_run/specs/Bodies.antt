@@ -4,12 +4,12 @@ use Rattle.flow_core_laws.specs.Outcome.{has_end_at}
 use Rattle.flow_core_laws.specs.declared.activation.Activation.{Activation}
 use Rattle.flow_core_laws.specs.declared.task_end.TaskEnd.{TaskEnd}
 use Rattle.os_code.specs.Codes.{parts_of}
-use Rattle.os_code.specs.Outcomes.{control}
+use Rattle.os_code.specs.Outcomes.{main_control}
 use Rattle.epoch_run.specs.declared.open_bodies.OpenBodies.{OpenBodies}
 
--- all activations that the control program has created, so many
+-- all activations that the control program has created: its first `count`
 abbrev pub all_of : OpenBodies → List Activation
-all_of bodies = take bodies.count (control (parts_of bodies.code.now) bodies.input_len bodies.budgets.control).activations
+all_of bodies = take bodies.count (main_control (parts_of bodies.code.now) bodies.input_len bodies.budgets.control).activations
 
 -- the list has them from a number on, and that of an activation is among these
 abbrev pub IsAmong : OpenBodies → ℕ → Type 0

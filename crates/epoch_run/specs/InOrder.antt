@@ -36,7 +36,7 @@ pub record GoesInOrder (code : Code) (input : List ℕ) (budgets : Budgets) (run
   pub behind : StandsBehind (parts_of code) (created (parts_of code) input budgets) (take (length order.ends) (created_so_far run.control)) input
       budgets.task order
 
--- all of them have
+-- all activations so far have run in control order
 pub record HaveRunInOrder (code : Code) (input : List ℕ) (budgets : Budgets) (run : Standing) (order : InOrder) : Type 0 where
   pub goes : GoesInOrder code input budgets run order
   pub all : length order.ends ≡ length (created_so_far run.control)

@@ -13,7 +13,7 @@ abbrev pub with_writer : List (List ℕ) → ℕ → Span → List (List ℕ)
 with_writer writers number span =
     if span.write then slice_set writers span.stream (slice_index_or writers span.stream [] ++ number ∷ []) else writers
 
--- those with more spans, which are numbered from here on
+-- the writers of the streams with more spans, which are numbered from `number` on
 abbrev pub with_writers : List (List ℕ) → ℕ → List Span → List (List ℕ)
 with_writers writers number [] = writers
 with_writers writers number (span ∷ spans) = with_writers (with_writer writers number span) (number + 1) spans

@@ -2,7 +2,7 @@
 use Rattle.std.specs.Prelude.{ℕ, ◌≤◌, List, length}
 use Rattle.flow_core_laws.specs.Limits.{budget_limit}
 use Rattle.flow_core_laws.specs.declared.activation.Activation.{Activation}
-use Rattle.os_code.specs.Outcomes.{control}
+use Rattle.os_code.specs.Outcomes.{main_control}
 use Rattle.os_code.specs.declared.parts.Parts.{Parts}
 use Rattle.epoch_run.specs.declared.result.Budgets.{Budgets}
 
@@ -13,4 +13,4 @@ pub record AreBudgets (budgets : Budgets) : Type 0 where
 
 -- The activations that `main` of a code creates over an input.
 abbrev pub created : Parts → (input : List ℕ) → Budgets → List Activation
-created code input budgets = (control code (length input) budgets.control).activations
+created code input budgets = (main_control code (length input) budgets.control).activations

@@ -13,7 +13,7 @@ use Rattle.epoch_run.specs.Held.{IsHeldBefore, IsHeldOf}
 use Rattle.epoch_run.specs.declared.result.Budgets.{Budgets}
 use Rattle.epoch_run.specs.declared.standing.Standing.{Standing}
 
--- the control program has created so many of the next activations, or all where fewer remained, and they stand behind those
+-- the control program has created the next `count` activations, or all where fewer remained, and they stand behind those
 -- of a list
 pub record HasCreated (count : ℕ) (before after : RunSoFar) (list added_to : List Activation) : Type 0 where
   pub is_list : added_to ≡ list ++ take count (remaining before)
@@ -23,7 +23,7 @@ pub record HasCreated (count : ℕ) (before after : RunSoFar) (list added_to : L
   pub fit : All (Fits after.code) (created_so_far after)
   pub lawful : AreLawful after.code.streams (created_so_far after)
 
--- it has created some of them, at most so many, or all where fewer remained
+-- it has created some of them, at most `at_most`, or all where fewer remained
 pub record HasAdvanced (at_most : ℕ) (before after : RunSoFar) (list added_to : List Activation) : Type 0 where
   pub count : ℕ
   pub some : 1 ≤ count
@@ -60,8 +60,8 @@ pub record StandsAt (code : Code) (input : List ℕ) (budgets : Budgets) (run : 
   pub held : IsHeldBefore (parts_of code) (created_so_far run.control) input budgets.task run.held
 
 -- An epoch over these activations was run. The list has all of them from a number on, and those before it have ended.
-pub record HasRun (code : Code) (input : List ℕ) (budgets : Budgets) (given : List Activation) (run : Standing) : Type 0 where
-  pub are_last : run.activations ≡ drop run.first given
+pub record HasRun (code : Code) (input : List ℕ) (budgets : Budgets) (all_created : List Activation) (run : Standing) : Type 0 where
+  pub are_last : run.activations ≡ drop run.first all_created
   pub have_ended : (a : ℕ) → a < run.first → has_end_at run.held.ends.ends a ≡ true
-  pub within : run.first ≤ length given
-  pub held : IsHeldOf (parts_of code) given input budgets.task run.held
+  pub within : run.first ≤ length all_created
+  pub held : IsHeldOf (parts_of code) all_created input budgets.task run.held

@@ -1,7 +1,6 @@
-ghost use Rattle.std.specs.Prelude.{◌≡◌, [], ◌<◌, ◌≤◌, ◌++◌, List, OnOk, Some, length, slice_get, slice_set};
+ghost use Rattle.std.specs.Prelude.{◌≡◌, [], ◌≤◌, ◌++◌, List, OnOk, length};
 ghost use Rattle.flow_core_laws.specs.declared.activation.Activation.{Activation};
 ghost use Rattle.stream_match_layouts.specs.Layout.{IsLayoutOf, TakesMore};
-ghost use Rattle.control_run.specs.Spawning.{no_activation};
 ghost use Rattle.control_run.specs.Stretches.{RunSoFar};
 ghost use Rattle.epoch_run.specs.NextSpans.{ComeBehind};
 ghost use Rattle.epoch_run.specs.Standing.{HasAdvanced, HasCreatedNext};
@@ -9,11 +8,10 @@ ghost use Rattle.epoch_run.specs.Standing.{HasAdvanced, HasCreatedNext};
 use crate::beside::advance;
 use crate::next_spans::NextSpans;
 use crate::size::EpochSize;
-use control_run::ControlRun;
+use control_run::{ControlRun, take_out};
 use flow_core_laws::Activation;
 use os_io::{List, Memory};
 use std::alloc::Global;
-use std::mem;
 use stream_match::Layout;
 
 /// Has the control program create the new activations of an epoch behind those of a list, and adds their positions to the layout of all.
@@ -98,18 +96,4 @@ fn move_all(
         activations.push(activation)?;
     }
     Ok(())
-}
-
-/// Takes an activation out of a list, and leaves an empty one in its place.
-fn take_out(alloc: Global, activations: &mut List<Activation>, number: usize) -> Activation
-    requires { number < length activations.old }
-    ensures taken { slice_get activations.old number ≡ Some result }
-    ensures left { activations.new ≡ slice_set activations.old number no_activation }
-{
-    let empty = Activation {
-        site: 0,
-        captured: List::new(alloc),
-        claims: List::new(alloc),
-    };
-    mem::replace(&mut activations.as_mut_slice()[number], empty)
 }

@@ -16,7 +16,7 @@ use std::thread::Threads;
 use stream_match::{Layout, build};
 use task_workers::Gate;
 
-/// Runs all activations of a layout by one plan, by so many workers.
+/// Runs all activations of a layout by one plan, by `workers` workers.
 pub(crate) fn run_at_once<R: Threads + Sync, G: Gate>(
     rt: &R,
     alloc: Global,

@@ -131,7 +131,7 @@ fn create_stretches(
     Ok(())
 }
 
-/// How many activations the next stretch of an epoch has, where so many are left to it.
+/// How many activations the next stretch of an epoch has, where `left` are left to it.
 fn stretch_of(size: EpochSize, left: u32) -> u32
     requires { 1 ≤ left }
     ensures some { 1 ≤ result }
@@ -140,7 +140,7 @@ fn stretch_of(size: EpochSize, left: u32) -> u32
     size.stretch.clamp(1, left)
 }
 
-/// Has the control program create the next activations, so many or all that remain. It answers whether fewer remained.
+/// Has the control program create the next `count` activations, or all that remain. It answers whether fewer remained.
 pub(crate) fn create(
     control: &mut ControlRun<'_>,
     next: &mut List<Activation>,

@@ -41,7 +41,7 @@ pub(crate) struct Borders {
 }
 
 impl Borders {
-    /// The borders of shares for so many workers behind the activations of a layout, which all ran, at this pace. The first share begins before
+    /// The borders of shares for `workers` workers behind the activations of a layout, which all ran, at this pace. The first share begins before
     /// these end, since it may have to begin a few later.
     pub(crate) fn behind(layout: &Layout, pace: Pace, workers: u32) -> Borders {
         let ran = count_of(layout).min(ACTIVATIONS_LIMIT);
@@ -89,7 +89,7 @@ impl Borders {
             / time.max(1)
     }
 
-    /// How many activations the first so many workers run in a time, where the first of them is busy with other work for a part of it.
+    /// How many activations the first `count` workers run in a time, where the first of them is busy with other work for a part of it.
     fn in_first(self, count: u32, time: u64, busy: u64) -> u64 {
         let (times, less) = self.weights(count);
         time.saturating_mul(times)

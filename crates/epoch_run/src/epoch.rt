@@ -35,7 +35,7 @@ use stream_match::{Layout, ReadyPlan, build_ready};
 use task_vm::Scratch;
 use task_workers::Gate;
 
-/// Runs an epoch by so many workers: the activations of a layout that have no end yet, over what was kept for
+/// Runs an epoch by `workers` workers: the activations of a layout that have no end yet, over what was kept for
 /// them. Where none is new, nothing is run. After `Memory` what is held may be anything, and the caller gives the run
 /// up.
 pub(crate) fn run_epoch<R: Threads + Sync, G: Gate>(

@@ -1,7 +1,7 @@
 ghost use Rattle.std.specs.Prelude.{◌≡◌, ◌≤◌, All, IfOk, length};
 ghost use Rattle.flow_core_laws.specs.Limits.{input_limit, workers_limit};
 ghost use Rattle.os_code.specs.Codes.{parts_of};
-ghost use Rattle.os_code.specs.Outcomes.{control};
+ghost use Rattle.os_code.specs.Outcomes.{main_control};
 ghost use Rattle.os_code.specs.Tasks.{Fits};
 ghost use Rattle.stream_match_layouts.specs.Lawful.{AreLawful};
 ghost use Rattle.stream_match_layouts.specs.Layout.{IsLayout, IsLayoutOf};
@@ -48,7 +48,7 @@ pub fn run_epochs<R: Threads + Sync, G: Gate>(
     ensures whole { IfOk result (λ run. IsLayout run.layout) }
     ensures streams { IfOk result (λ run. length run.layout.writers ≡ code.now.streams) }
     ensures input { IfOk result (λ run. run.layout.input_len ≡ length input.now) }
-    ensures control { IfOk result (λ run. run.control ≡ (control (parts_of code.now) (length input.now) budgets.control).end) }
+    ensures control { IfOk result (λ run. run.control ≡ (main_control (parts_of code.now) (length input.now) budgets.control).end) }
     // how they end, and the elements of the output
     ensures ends { IfOk result (λ run. run.ends
         ≡ code_ends (parts_of code.now) (created (parts_of code.now) input.now budgets) input.now budgets.task) }
@@ -90,7 +90,7 @@ pub fn run_epochs_of<R: Threads + Sync, G: Gate>(
     ensures whole { IfOk result (λ run. IsLayout run.layout) }
     ensures streams { IfOk result (λ run. length run.layout.writers ≡ code.now.streams) }
     ensures input { IfOk result (λ run. run.layout.input_len ≡ length input.now) }
-    ensures control { IfOk result (λ run. run.control ≡ (control (parts_of code.now) (length input.now) budgets.control).end) }
+    ensures control { IfOk result (λ run. run.control ≡ (main_control (parts_of code.now) (length input.now) budgets.control).end) }
     // how they end, and the elements of the output
     ensures ends { IfOk result (λ run. run.ends
         ≡ code_ends (parts_of code.now) (created (parts_of code.now) input.now budgets) input.now budgets.task) }
@@ -132,7 +132,7 @@ fn run_by<R: Threads + Sync, G: Gate>(
     ensures whole { IfOk result (λ run. IsLayout run.layout) }
     ensures streams { IfOk result (λ run. length run.layout.writers ≡ code.now.streams) }
     ensures input { IfOk result (λ run. run.layout.input_len ≡ length input.now) }
-    ensures control { IfOk result (λ run. run.control ≡ (control (parts_of code.now) (length input.now) budgets.control).end) }
+    ensures control { IfOk result (λ run. run.control ≡ (main_control (parts_of code.now) (length input.now) budgets.control).end) }
     // how they end, and the elements of the output
     ensures ends { IfOk result (λ run. run.ends
         ≡ code_ends (parts_of code.now) (created (parts_of code.now) input.now budgets) input.now budgets.task) }

@@ -4,7 +4,7 @@ ghost use Rattle.flow_core_laws.specs.Outcome.{outcome_at};
 ghost use Rattle.flow_core_laws.specs.Place.{Place};
 ghost use Rattle.flow_core_laws.specs.declared.activation.Activation.{Activation};
 ghost use Rattle.flow_core_epochs.specs.Epoch.{carried_over, open_in, output_over, put_over};
-ghost use Rattle.stream_match.specs.EpochPlan.{AreFrames};
+ghost use Rattle.stream_match.specs.EpochPlan.{AscendInLayout};
 ghost use Rattle.stream_match.specs.Kept.{kept_of};
 ghost use Rattle.stream_match.specs.Stretch.{stretch_places};
 ghost use Rattle.stream_match.specs.declared.stretch.Stretch.{Stretch};
@@ -66,7 +66,7 @@ impl Held {
     ) -> Result<(), Memory>
         requires layout { IsLayout layout.now }
         requires readers { readers ≡ open_in self.old.ends.ends (frame_count layout.now) }
-        requires frames { AreFrames layout.now frames.now }
+        requires frames { AscendInLayout layout.now frames.now }
         requires are_open { (f a : ℕ) → slice_get frames.now f ≡ Some a → outcome_at self.old.ends.ends a ≡ None }
         requires ends_fit { length run.now.ends ≡ length frames.now }
         requires values_fit { length run.now.output ≡ length (flat_map stretch_places leaves.now) }
@@ -100,7 +100,7 @@ impl Held {
     ) -> Result<(), Memory>
         requires layout { IsLayout layout.now }
         requires readers { readers ≡ open_in self.old.ends.ends (frame_count layout.now) }
-        requires frames { AreFrames layout.now frames.now }
+        requires frames { AscendInLayout layout.now frames.now }
         requires are_open { (f a : ℕ) → slice_get frames.now f ≡ Some a → outcome_at self.old.ends.ends a ≡ None }
         requires ends_fit { length run.now.ends ≡ length frames.now }
         requires values_fit { length run.now.output ≡ length (flat_map stretch_places leaves.now) }

@@ -9,7 +9,7 @@ ghost use Rattle.flow_core_epochs.specs.Epoch.{IsHeld};
 ghost use Rattle.flow_core_laws.specs.Limits.{input_limit};
 ghost use Rattle.flow_core_laws.specs.declared.activation.Activation.{Activation};
 ghost use Rattle.os_code.specs.Codes.{parts_of};
-ghost use Rattle.os_code.specs.Outcomes.{control};
+ghost use Rattle.os_code.specs.Outcomes.{main_control};
 ghost use Rattle.os_code.specs.declared.code.Code.{Code};
 ghost use Rattle.stream_match.specs.Kept.{kept_of};
 ghost use Rattle.stream_match_layouts.specs.Layout.{IsLayout, IsLayoutOf, TakesMore};
@@ -26,6 +26,7 @@ use crate::sharing::share_out;
 use crate::standing::Standing;
 use epoch_run_bodies::laws::later_activations_change_nothing;
 use epoch_run_in_order::{HeldInOrder, InOrder};
+use epoch_run_shares::STRETCH;
 use flow_core_laws::{ACTIVATIONS_LIMIT, ControlEnd, Ends};
 use os_code::Code;
 use os_io::{List, Memory};
@@ -34,10 +35,7 @@ use std::mem;
 use std::thread::Threads;
 use task_workers::Gate;
 
-/// How many activations are created before they run.
-pub(crate) const STRETCH: u32 = 256;
-
-/// How many of them run before the others are shared out among several workers.
+/// How many activations run before the others are shared out among several workers.
 const ALONE: usize = 1_024;
 
 /// More activations than a run ever has.
@@ -64,7 +62,7 @@ pub(crate) fn run_in_order<'c, R: Threads + Sync, G: Gate>(
     ensures stands { IfOk result (λ _. StandsAt code.now input.now budgets run.new) }
     ensures grows { IfOk result (λ end. end ≡ None → length (created_so_far run.old.control) < length (created_so_far run.new.control)) }
     ensures all { IfOk result (λ end. IfSome end (λ _. created_so_far run.new.control ≡ created (parts_of code.now) input.now budgets)) }
-    ensures end { IfOk result (λ end. IfSome end (λ e. e ≡ (control (parts_of code.now) (length input.now) budgets.control).end)) }
+    ensures end { IfOk result (λ end. IfSome end (λ e. e ≡ (main_control (parts_of code.now) (length input.now) budgets.control).end)) }
 {
     later_activations_change_nothing();
     let mut order = begin(run, alloc, code)?;
@@ -134,8 +132,8 @@ fn run_on<'c, R: Threads + Sync, G: Gate>(
     Ok(())
 }
 
-/// Runs stretch by stretch, as far as that goes, and at most until so many activations are laid out. It answers whether all so far ran, and more may
-/// come.
+/// Runs stretch by stretch, as far as that goes, and no further than the one with which `until` activations are laid out. It answers whether all so far ran,
+/// and more may come.
 fn run_stretches<G: Gate>(
     run: &mut Standing<'_>,
     order: &mut InOrder,
@@ -163,7 +161,7 @@ fn run_stretches<G: Gate>(
     Ok(goes_on)
 }
 
-/// Whether stretches end with one behind which so many activations are laid out.
+/// Whether no further stretch is run: the last one didn't run whole, or no more come, or `frames` activations are laid out, which are `until` or more.
 fn ends_here(goes_on: bool, frames: usize, until: usize) -> bool
     ensures { result ≡ false → goes_on ≡ true }
 {
@@ -198,7 +196,7 @@ fn run_stretch<G: Gate>(
     Ok(run.control.end().is_none())
 }
 
-/// Has the control program create the next activations, so many or all that remain, and lays them out. Those before them have ended, and their lists
+/// Has the control program create the next `count` activations, or all that remain, and lays them out. Those before them have ended, and their lists
 /// are used again.
 pub(crate) fn create_stretch(
     run: &mut Standing<'_>,

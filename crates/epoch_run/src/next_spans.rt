@@ -85,7 +85,7 @@ impl NextSpans {
         Ok(())
     }
 
-    /// Adds a claim of an activation, where its windows before this one take so many inputs or outputs.
+    /// Adds a claim of an activation, where its windows before this one take `offset` inputs or outputs.
     fn take(&mut self, frame: u16, claim: &Claim, offset: u32) -> Result<(), Memory>
         requires { HasCursors self.old.cursors claim.now }
         ensures { OnOk result (self.new ≡ with_next self.old frame claim.now offset) }

@@ -34,12 +34,12 @@ const THREAD_STEPS: u64 = 65_536;
 pub(crate) enum Pace {
     /// None was run by several workers yet.
     Unknown,
-    /// They take about so many steps each, and a plan has about so many cells for each, those of the output among them.
+    /// A body takes about `each` steps, and a plan has about `cells` cells for a frame, those of the output among them.
     Steps { each: u64, cells: u64 },
 }
 
 impl Pace {
-    /// The pace behind an epoch: that of the frames of its plan, whose bodies took so many steps together. Those below `COUNTED` steps aren't
+    /// The pace behind an epoch: that of the frames of its plan, whose bodies took `steps` steps together. Those below `COUNTED` steps aren't
     /// counted, so that all are taken to have as many. Where it has no frames, nothing new is known.
     pub(crate) fn behind(self, plan: &Plan, steps: u64) -> Pace {
         let frames = plan.frames.len();
@@ -47,12 +47,12 @@ impl Pace {
         self.by(counted, frames, cells_of(plan))
     }
 
-    /// The pace behind so many more activations like those before them, whose bodies took so many steps together.
+    /// The pace behind `count` more activations like those before them, whose bodies took `steps` steps together.
     pub(crate) fn behind_more(self, steps: u64, count: usize) -> Pace {
         self.by(steps, count, self.cells())
     }
 
-    /// The pace of so many bodies that took so many steps together, of which each has so many cells. Where there are none it stays.
+    /// The pace of `count` bodies that took `steps` steps together, of which each has `cells` cells. Where there are none it stays.
     fn by(self, steps: u64, count: usize, cells: u64) -> Pace {
         if count == 0 {
             return self;
@@ -95,7 +95,7 @@ impl Pace {
         }
     }
 
-    /// Whether they are so long that so many workers gain by sharing a run out.
+    /// Whether they are so long that `workers` workers gain by sharing a run out.
     pub(crate) fn is_worth_shares(self, workers: u32) -> bool {
         match self {
             Pace::Steps { each, cells } => {
@@ -114,7 +114,7 @@ impl Pace {
         }
     }
 
-    /// How many steps the bodies of so many activations may take together where these run one after the other: any number by one worker, and by
+    /// How many steps the bodies of `activations` activations may take together where these run one after the other: any number by one worker, and by
     /// several what short bodies take.
     pub(crate) fn most_steps(self, workers: u32, activations: u64) -> u64 {
         if workers == 1 {
@@ -144,7 +144,7 @@ fn worth_a_table(cells: u64) -> u64 {
     cells.saturating_mul(CELL_STEPS).saturating_add(TABLE_STEPS)
 }
 
-/// The least number of steps of an average body for which it pays so many workers to share a run out: to one worker it never does.
+/// The least number of steps of an average body from which on `workers` workers gain by sharing a run out; one worker never gains.
 fn worth_shares(workers: u32) -> u64 {
     match workers {
         0 | 1 => u64::MAX,
@@ -171,7 +171,7 @@ fn threads_for(steps: u64, workers: u32) -> u32
     (steps / THREAD_STEPS).clamp(1, u64::from(workers)) as u32
 }
 
-/// How many steps the bodies of a plan take that are one round, where each takes so many; 0 where some frames wait for others.
+/// How many steps the bodies of a plan that is one round take together, where one takes `each`; 0 where some frames wait for others.
 fn steps_at_once(plan: &Plan, each: u64) -> u64 {
     if !are_open(plan) {
         return 0;

@@ -26,8 +26,8 @@ fn workers_for(asked: u32, frames: usize) -> u32
     asked
 }
 
-/// Runs a plan by so many workers, of which there are no more than frames. One worker runs frame by frame in this thread: it
-/// needs no table of atomic words and looks for no frames. So it does where bodies are short for what the table costs; several run them where
+/// Runs a plan by `workers` workers, or, where it has fewer frames, by as many as it has frames, at least one. One worker runs frame by frame in this
+/// thread: it needs no table of atomic words and looks for no frames. So it does where bodies are short for what the table costs; several run them where
 /// all are open from the start, in one round, and run longer ones over the table. So threads are started once, if any.
 pub(crate) fn run_plan<R: Threads + Sync, B: Bodies, G: Gate>(
     rt: &R,

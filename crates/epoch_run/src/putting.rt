@@ -19,7 +19,7 @@ const MOST_ROOM: usize = 1 << 63;
 /// nothing; a list that grows from less is copied several times, and leaves a hole behind each time.
 const ROOM: usize = 1 << 20;
 
-/// Puts the ends of an epoch's frames over those of so many activations.
+/// Puts the ends of an epoch's frames over those of all `count` activations.
 pub(crate) fn take_ends(
     ends: &mut List<Option<TaskEnd>>,
     count: usize,
@@ -37,7 +37,7 @@ pub(crate) fn take_ends(
     Ok(())
 }
 
-/// Puts the elements that left an epoch at their positions of the output, of which there are so many. The elements are those of
+/// Puts the elements that left an epoch at their positions of the output, which then has `count` positions. The elements are those of
 /// the first stretch, then those of the second, and so on.
 pub(crate) fn take_output(
     output: &mut List<Option<Elem>>,
@@ -54,7 +54,7 @@ pub(crate) fn take_output(
     Ok(())
 }
 
-/// Makes a list so long, with nothing at the places that it didn't have.
+/// Makes a list `count` items long, with nothing at the places that it didn't have.
 fn grow<T: Drop>(list: &mut List<Option<T>>, count: usize) -> Result<(), Memory>
     requires { length list.old ≤ count }
     ensures length { OnOk result (length list.new ≡ count) }

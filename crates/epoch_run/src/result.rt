@@ -1,7 +1,7 @@
 use flow_core_laws::{ControlEnd, Ends};
 use stream_match::Layout;
 
-/// How many turns activations and `main` may take, in units: one for each turn of a loop, each call and each
+/// How many turns activations and `main` may take: one for each turn of a loop, each call and each
 /// tick. Each is 0 to 1,000,000,000.
 #[derive(Clone, Copy, Debug, PartialEq, Eq)]
 pub struct Budgets {

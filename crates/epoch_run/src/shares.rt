@@ -14,11 +14,11 @@ ghost use Rattle.epoch_run.specs.Sharing.{FirstOnesRan, IsLaidOut, SharesOut};
 ghost use Rattle.epoch_run.specs.declared.result.Budgets.{Budgets};
 
 use crate::borders::Borders;
-use crate::in_order::{STRETCH, create_stretch};
+use crate::in_order::create_stretch;
 use crate::result::Budgets;
 use crate::standing::Standing;
 use epoch_run_in_order::{Apart, InOrder};
-use epoch_run_shares::run_share;
+use epoch_run_shares::{STRETCH, run_share};
 use os_code::Code;
 use os_io::Memory;
 use std::alloc::Global;

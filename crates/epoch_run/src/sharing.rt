@@ -11,13 +11,13 @@ ghost use Rattle.epoch_run.specs.Sharing.{AreSharedOut, IsLaidOut};
 ghost use Rattle.epoch_run.specs.declared.result.Budgets.{Budgets};
 
 use crate::borders::Borders;
-use crate::in_order::{STRETCH, create_stretch};
+use crate::in_order::create_stretch;
 use crate::result::Budgets;
 use crate::shares::run_shares;
 use crate::standing::Standing;
 use control_run::ControlRun;
 use epoch_run_in_order::InOrder;
-use epoch_run_shares::run_share;
+use epoch_run_shares::{STRETCH, run_share};
 use os_code::Code;
 use os_io::{List, Memory};
 use std::alloc::Global;
@@ -75,7 +75,7 @@ pub(crate) fn share_out<'c, R: Threads + Sync>(
     Ok(all)
 }
 
-/// Whether so many workers are to try to share a run out behind so many activations: bodies are long enough, and at least twice as many activations
+/// Whether `workers` workers are to try to share a run out behind `first` activations: bodies are long enough, and at least twice as many activations
 /// have run as at the last try. So what all tries pass together grows with the number of activations, and not with its square.
 fn is_worth_a_try(run: &Standing<'_>, first: u32, workers: u32) -> bool {
     run.held.pace.is_worth_shares(workers) && first >= run.tried.saturating_mul(2)
@@ -133,7 +133,7 @@ fn take_up<'c>(
     Ok(false)
 }
 
-/// Has the control program create the first activations anew, so many, and lays out these alone. They have run, so that none of them stays in the list.
+/// Has the control program create the first `count` activations anew, and lays out these alone. They have run, so that none of them stays in the list.
 fn create_anew<'c>(
     run: &mut Standing<'c>,
     alloc: Global,
@@ -160,7 +160,7 @@ fn create_anew<'c>(
     Ok(())
 }
 
-/// Has a control program that has created nothing yet create so many activations, stretch by stretch, and lays them out.
+/// Has a control program that has created nothing yet create `count` activations, stretch by stretch, and lays them out.
 fn lay_out_first(run: &mut Standing<'_>, alloc: Global, count: u32) -> Result<(), Memory>
     requires laid { IsLaidOut run.old.control run.old.layout }
     requires none { length (created_so_far run.old.control) ≡ 0 }
@@ -178,7 +178,7 @@ fn lay_out_first(run: &mut Standing<'_>, alloc: Global, count: u32) -> Result<()
     Ok(())
 }
 
-/// How many activations the next stretch has, where so many are left.
+/// How many activations the next stretch has, where `left` are left.
 fn stretch_of(left: u32) -> u32
     requires { 1 ≤ left }
     ensures some { 1 ≤ result }

@@ -3,18 +3,18 @@ ghost use Rattle.std.specs.Prelude.{◌≤◌};
 /// How many new activations an epoch has at most for each worker that it is sized for.
 const ACTIVATIONS: u32 = 1024;
 
-/// How many elements the windows of an epoch's new activations may have for each worker: with so many it takes no more activations,
+/// How many elements the windows of an epoch's new activations may have for each worker: once they have as many, it takes no more activations,
 /// since their cells, and what they write, are held at once.
 const ELEMENTS: u64 = 16_384;
 
 /// How many they may have where one worker runs the epoch: it starts no thread for it, so that a small epoch costs little.
 const ELEMENTS_ALONE: u64 = 8_192;
 
-/// For how many workers an epoch is sized at most: where there are more, they share what so many would have.
+/// For how many workers an epoch is sized at most: where there are more, they share what `SHARES` workers would have.
 const SHARES: u32 = 4;
 
 /// How many activations are created before their elements are counted: so an epoch has one for each of 64 workers.
-const STRETCH: u32 = 64;
+const COUNTED_AT_ONCE: u32 = 64;
 
 /// How many activations the first epoch has at most where several workers run it.
 const FIRST: u32 = 256;
@@ -24,10 +24,10 @@ const FIRST: u32 = 256;
 pub struct EpochSize {
     /// How many new activations it has at most: one at least.
     pub activations: u32,
-    /// With so many elements in their windows it takes no more of them, or with half as many as are kept where these are more. An element
-    /// counts once for each window that has it.
+    /// The epoch takes no more activations once the windows of its new ones have this many elements, or half as many as are kept, where that is more. An
+    /// element counts once for each window that has it.
     pub elements: u64,
-    /// The elements are counted each time that the control program has created so many activations; 0 stands for 1.
+    /// The elements are counted each time that the control program has created this many activations; 0 stands for 1.
     pub stretch: u32,
     /// How many times as much it may have while many activations wait, since each of them is looked at again in each epoch in which something
     /// runs; 0 stands for 1.
@@ -35,7 +35,7 @@ pub struct EpochSize {
 }
 
 impl EpochSize {
-    /// The size of the epochs of a run by so many workers: at most 4,096 new activations.
+    /// The size of the epochs of a run by `workers` workers: at most 4,096 new activations.
     pub(crate) fn by_workers(workers: u32) -> EpochSize
         requires { 1 ≤ workers }
         ensures { 1 ≤ result.activations }
@@ -44,7 +44,7 @@ impl EpochSize {
         EpochSize {
             activations: shares * ACTIVATIONS,
             elements: elements_for(shares),
-            stretch: STRETCH,
+            stretch: COUNTED_AT_ONCE,
             growth: SHARES / shares,
         }
     }
@@ -84,7 +84,7 @@ impl EpochSize {
     }
 }
 
-/// How many elements an epoch of so many shares may have.
+/// How many elements an epoch of `shares` shares may have.
 fn elements_for(shares: u32) -> u64 {
     if shares == 1 {
         ELEMENTS_ALONE

@@ -4,7 +4,7 @@ ghost use Rattle.flow_core_laws.specs.Limits.{activations_limit, input_limit, wo
 ghost use Rattle.flow_core_laws.specs.declared.activation.Activation.{Activation};
 ghost use Rattle.os_code.specs.Codes.{parts_of};
 ghost use Rattle.os_code.specs.declared.code.Code.{Code};
-ghost use Rattle.os_code.specs.Outcomes.{control};
+ghost use Rattle.os_code.specs.Outcomes.{main_control};
 ghost use Rattle.stream_match_layouts.specs.Layout.{IsLayout, IsLayoutOf};
 ghost use Rattle.epoch_run_bodies.specs.Frames.{code_ends};
 ghost use Rattle.epoch_run.specs.NextSpans.{ComeBehind};
@@ -112,7 +112,7 @@ impl<'c> Standing<'c> {
         ensures stands { IfOk result (λ _. StandsAt code.now input.now budgets self.new) }
         ensures grows { IfOk result (λ end. end ≡ None → length (created_so_far self.old.control) < length (created_so_far self.new.control)) }
         ensures all { IfOk result (λ end. IfSome end (λ _. created_so_far self.new.control ≡ created (parts_of code.now) input.now budgets)) }
-        ensures end { IfOk result (λ end. IfSome end (λ e. e ≡ (control (parts_of code.now) (length input.now) budgets.control).end)) }
+        ensures end { IfOk result (λ end. IfSome end (λ e. e ≡ (main_control (parts_of code.now) (length input.now) budgets.control).end)) }
     {
         if way == Way::InOrder && self.may_go_in_order(workers) {
             return self.go_on_in_order(rt, alloc, code, input, budgets, workers, gate, size);
@@ -154,7 +154,7 @@ impl<'c> Standing<'c> {
         ensures stands { IfOk result (λ _. StandsAt code.now input.now budgets self.new) }
         ensures grows { IfOk result (λ end. end ≡ None → length (created_so_far self.old.control) < length (created_so_far self.new.control)) }
         ensures all { IfOk result (λ end. IfSome end (λ _. created_so_far self.new.control ≡ created (parts_of code.now) input.now budgets)) }
-        ensures end { IfOk result (λ end. IfSome end (λ e. e ≡ (control (parts_of code.now) (length input.now) budgets.control).end)) }
+        ensures end { IfOk result (λ end. IfSome end (λ e. e ≡ (main_control (parts_of code.now) (length input.now) budgets.control).end)) }
     {
         self.run(rt, alloc, code, input, budgets, workers, gate)?;
         if self.goes_in_order(workers) {
@@ -182,7 +182,7 @@ impl<'c> Standing<'c> {
         ensures stands { IfOk result (λ _. StandsAt code.now input.now budgets self.new) }
         ensures grows { IfOk result (λ end. end ≡ None → length (created_so_far self.old.control) < length (created_so_far self.new.control)) }
         ensures all { IfOk result (λ end. IfSome end (λ _. created_so_far self.new.control ≡ created (parts_of code.now) input.now budgets)) }
-        ensures end { IfOk result (λ end. IfSome end (λ e. e ≡ (control (parts_of code.now) (length input.now) budgets.control).end)) }
+        ensures end { IfOk result (λ end. IfSome end (λ e. e ≡ (main_control (parts_of code.now) (length input.now) budgets.control).end)) }
     {
         self.run_and_create(rt, alloc, code, input, budgets, workers, gate, size)?;
         Ok(self.control.end())
@@ -371,8 +371,8 @@ impl<'c> Standing<'c> {
     /// Gives up the activations of the list, where each of them has an end: the next ones are made in their lists.
     fn give_up_ended(&mut self, alloc: Global)
         requires { length self.old.held.ends.ends ≤ activations_limit }
-        ensures run { (code : Code) (input : List ℕ) (budgets : Budgets) (given : List Activation) → HasRun code input budgets given self.old
-            → HasRun code input budgets given self.new }
+        ensures run { (code : Code) (input : List ℕ) (budgets : Budgets) (all_created : List Activation) → HasRun code input budgets all_created self.old
+            → HasRun code input budgets all_created self.new }
         ensures same { self.new ≡ record self.old { activations = self.new.activations; first = self.new.first } }
     {
         if self.held.without_end.len() == 0 {

@@ -43,7 +43,7 @@ pub(crate) fn still_open(
     without_end(alloc, activations.as_slice(), ends)
 }
 
-/// Those of some activations that have no end.
+/// Those among the activations that have no end.
 fn without_end(
     alloc: Global,
     activations: &[u32],

@@ -11,12 +11,12 @@ use Rattle.flow_core_laws.specs.declared.task_end.TaskEnd.TheVariants.{Poisoned}
 use Rattle.flow_core_laws.specs.Element.{Source}
 use Rattle.flow_core_laws.specs.Poisoning.{least_root, poisoning, values_of}
 use Rattle.flow_core_laws.proofs.OneMore.{length-values}
-use Rattle.flow_core_laws.specs.Outcome.{State, outcome_at, outcome_of}
+use Rattle.flow_core_laws.specs.Outcome.{State, outcome_at, outcome_of, over_budget}
 use Rattle.flow_core_laws.specs.Round.{inputs_in, meaning, round, rounds}
 use Rattle.flow_core_laws.specs.Streams.{stream_element, stream_meaning, stream_reads}
 use Rattle.flow_core_laws.specs.declared.activation.Activation.{Activation}
 use Rattle.flow_core_laws.specs.declared.outcome.Outcome.{Outcome}
-use Rattle.os_code.specs.Outcomes.{over_budget, task_outcome}
+use Rattle.os_code.specs.Outcomes.{code_outcome}
 use Rattle.os_code.specs.declared.parts.Parts.{Parts}
 use Rattle.epoch_run_bodies.specs.Frames.{frame_outcome}
 use Rattle.epoch_run_bodies.specs.Laws.{Agree}
@@ -76,5 +76,5 @@ mean_one activations input body other agree =
 pub more_agree : (code : Parts) (activations more : List Activation) (budget : ℕ)
     → Agree activations (frame_outcome code activations budget) (frame_outcome code (activations ++ more) budget)
 more_agree code activations more budget a x inputs at long =
-    ap (λ o. option_map_or (λ (y : Activation). task_outcome code y inputs budget) o over_budget)
+    ap (λ o. option_map_or (λ (y : Activation). code_outcome code y inputs budget) o over_budget)
     (sym (slice_get-append_left activations more a (slice_get_within activations a x at)))

@@ -6,6 +6,7 @@ use Rattle.std.proofs.lemmas.List.Elements.{All-get_or}
 use Rattle.std.proofs.lemmas.List.FromFn.{length-map-range_with_len}
 use Rattle.std.proofs.lemmas.Option.{get_or_from_slice_get, slice_get-get_or, slice_get_within}
 use Rattle.flow_core_epochs.specs.Epoch.{ServesAll}
+use Rattle.flow_core_laws.specs.Outcome.{over_budget}
 use Rattle.flow_core_laws.specs.Place.{input_places}
 use Rattle.flow_core_laws.specs.Plans.{cell_source, frame_at}
 use Rattle.flow_core_laws.specs.Serves.{Serves}
@@ -15,7 +16,7 @@ use Rattle.flow_core_laws.specs.declared.activation.Activation.{Activation}
 use Rattle.flow_core_laws.specs.declared.plan.Plan.{Plan}
 use Rattle.os_code.specs.IsValid.{IsValid}
 use Rattle.os_code.specs.Laws.{IsProper, TaskEndsAreProper, TasksEnd}
-use Rattle.os_code.specs.Outcomes.{over_budget, task_outcome}
+use Rattle.os_code.specs.Outcomes.{code_outcome}
 use Rattle.os_code.specs.Tasks.{Fits, input_count}
 use Rattle.os_code.specs.declared.parts.Parts.{Parts}
 use Rattle.epoch_run_bodies.specs.Frames.{TakesFrame, frame_outcome}
@@ -51,13 +52,13 @@ module _ (ends : TasksEnd) (proper : TaskEndsAreProper) (code : Parts) (activati
   outputs_fit : (f : ℕ) (a : IsAt f) → (frame_at plan f).outputs ≡ output_count a.activation
   outputs_fit f a = stands.outputs_are_written f a.activation a.is_there
 
-  is_outcome : (f : ℕ) (a : IsAt f) (inputs : List ℤ) → frame_outcome code activations budget f inputs ≡ task_outcome code a.activation inputs budget
-  is_outcome f a inputs = ap (λ o. option_map_or (λ (x : Activation). task_outcome code x inputs budget) o over_budget) a.is_there
+  is_outcome : (f : ℕ) (a : IsAt f) (inputs : List ℤ) → frame_outcome code activations budget f inputs ≡ code_outcome code a.activation inputs budget
+  is_outcome f a inputs = ap (λ o. option_map_or (λ (x : Activation). code_outcome code x inputs budget) o over_budget) a.is_there
 
   is_proper : (f : ℕ) (a : IsAt f) (inputs : List ℤ) → IsProper a.activation (frame_outcome code activations budget f inputs)
   is_proper f a inputs =
       let e = ends code a.activation inputs budget valid a.fits in
-      subst (λ o. IsProper a.activation o) (sym (is_outcome f a inputs)) (proper code a.activation inputs budget (task_outcome code a.activation inputs budget) e.steps valid a.fits e.ends)
+      subst (λ o. IsProper a.activation o) (sym (is_outcome f a inputs)) (proper code a.activation inputs budget (code_outcome code a.activation inputs budget) e.steps valid a.fits e.ends)
 
   pub serves : Serves plan (frame_outcome code activations budget) (TakesFrame code activations budget)
   serves = record {
@@ -96,6 +97,6 @@ serves_all ends proper code activations budget valid all_fit small = record {
     is_proper : (a : ℕ) (x : Activation) → slice_get activations a ≡ Some x → (inputs : List ℤ) → IsProper x (frame_outcome code activations budget a inputs)
     is_proper a x at inputs =
         let e = ends code x inputs budget valid (fits a x at) in
-        let is : frame_outcome code activations budget a inputs ≡ task_outcome code x inputs budget =
-        ap (λ o. option_map_or (λ (y : Activation). task_outcome code y inputs budget) o over_budget) at in
-        subst (λ o. IsProper x o) (sym is) (proper code x inputs budget (task_outcome code x inputs budget) e.steps valid (fits a x at) e.ends)
+        let is : frame_outcome code activations budget a inputs ≡ code_outcome code x inputs budget =
+        ap (λ o. option_map_or (λ (y : Activation). code_outcome code y inputs budget) o over_budget) at in
+        subst (λ o. IsProper x o) (sym is) (proper code x inputs budget (code_outcome code x inputs budget) e.steps valid (fits a x at) e.ends)

@@ -73,14 +73,14 @@ fn leave_behind(kept: &mut Vec<Kept>, cursors: &[u64])
 fn may_be_read(cursors: &[u64], stream: u32, position: u64) -> bool
     ensures { result ≡ (nat_le 2 stream && nat_le (slice_index cursors.now stream) position) }
 {
-    stream >= 2 && position >= cursor_of(cursors, stream)
+    stream >= 2 && position >= cursor_of(cursors, stream as usize)
 }
 
 /// The cursor of a stream, and 0 where it has none.
-fn cursor_of(cursors: &[u64], stream: u32) -> u64
+pub fn cursor_of(cursors: &[u64], stream: usize) -> u64
     ensures { result ≡ slice_index cursors.now stream }
 {
-    match cursors.get(stream as usize) {
+    match cursors.get(stream) {
         Some(cursor) => *cursor,
         None => 0,
     }
@@ -136,7 +136,7 @@ fn passed_over(cursors: &[u64], leaving: Stretch) -> u32
     if leaving.stream < 2 {
         return leaving.count;
     }
-    let before = cursor_of(cursors, leaving.stream).saturating_sub(leaving.first);
+    let before = cursor_of(cursors, leaving.stream as usize).saturating_sub(leaving.first);
     before.min(u64::from(leaving.count)) as u32
 }
 

@@ -94,7 +94,7 @@ element_put k kept f n elements is = by (cases_lt k.place.position f)
         ∙ ap (λ vs. set vs (k.place.position - f) (Some k.value)) is
         ∙ one_put k kept f n behind
 
--- So many streams hold what is kept of the declared ones, each from its first position on, so many positions, and the output.
+-- Of `n` streams each declared one holds what is kept of it from its first position on, as many positions as `counts` says, and the output its elements.
 pub record HoldKept (n : ℕ) (firsts : List ℕ) (counts : ℕ → ℕ) (output : List (Option Elem)) (elements : List (List (Option Elem)))
     (kept : List Kept) : Type 0 where
   pub as_many : length elements ≡ n

@@ -45,19 +45,19 @@ frames_of layout given is = let e = ap length is.starts ∙ length-map-range_wit
 
 module _ (code : Code) (layout : Layout) (first : ℕ) (activations : List Activation) (last : AreLast code layout first activations) where
   pub is_frame : (count : ℕ) → count < length activations → first + count < frame_count layout
-  is_frame count lt = omega (arith, frames_of layout last.given last.is_of, ap length last.are_next, length-drop first last.given)
+  is_frame count lt = omega (arith, frames_of layout last.in_layout last.is_of, ap length last.are_next, length-drop first last.in_layout)
 
   pub are_next : (count : ℕ) (d : Activation) → count < length activations → AreNext (first + count) (get_or activations count d) (spans_of layout (first + count))
   are_next count d lt =
       let n = first + count in
       let x = get_or activations count d in
-      let at = next_there last.given activations first count d (sym last.are_next) lt in
-      let within = slice_get_within last.given n x at in
-      let few = length-take n last.given in
+      let at = next_there last.in_layout activations first count d (sym last.are_next) lt in
+      let within = slice_get_within last.in_layout n x at in
+      let few = length-take n last.in_layout in
       record {
-        before = take n last.given;
+        before = take n last.in_layout;
         as_many = omega (arith, few, within);
-        are_theirs = next_spans layout last.given n x last.is_of at;
+        are_theirs = next_spans layout last.in_layout n x last.is_of at;
         early = omega (arith, is_frame count lt, frames_are layout last.whole, frames_bound layout last.whole);
         few = counts-few layout last.whole.activations last.whole.is_of last.whole.lawful.positions_are_few n;
       }

@@ -11,7 +11,7 @@ use Rattle.flow_core_laws.specs.declared.elem.Elem.{Elem}
 use Rattle.flow_core_laws.specs.declared.outcome.Outcome.{Outcome}
 use Rattle.flow_core_laws.specs.declared.task_end.TaskEnd.{TaskEnd}
 use Rattle.flow_core_laws.specs.declared.task_end.TaskEnd.TheVariants.{Done, Trapped, OverBudget, Poisoned}
-use Rattle.flow_core_laws.specs.Outcome.{State, ends_of, outcome_of, root_of}
+use Rattle.flow_core_laws.specs.Outcome.{State, ends_of, outcome_of, root_of, over_budget}
 use Rattle.flow_core_laws.specs.Round.{gathered}
 use Rattle.flow_core_laws.proofs.Windows.{length-windows_behind}
 use Rattle.std.proofs.lemmas.List.FromFn.{get_or-map-range_with_len}
@@ -22,7 +22,7 @@ use Rattle.flow_core_laws.specs.Streams.{output_count, stream_reads, stream_sour
 use Rattle.flow_core_laws.specs.Window.{Window, claim_at, claims_at, claims_of, window_of, windows_of}
 use Rattle.flow_core_laws.proofs.Rounds.{length-meaning}
 use Rattle.flow_core_laws.proofs.There.{offset_within}
-use Rattle.os_code.specs.Outcomes.{over_budget, task_outcome}
+use Rattle.os_code.specs.Outcomes.{code_outcome}
 use Rattle.os_code.specs.Tasks.{input_count}
 use Rattle.os_code.specs.declared.parts.Parts.{Parts}
 use Rattle.epoch_run_bodies.proofs.Counts.{length-reads}
@@ -114,7 +114,7 @@ outcome_next code all before elements budget = poisoning (frame_outcome code all
 pub outcome_is : (code : Parts) (all before : List Activation) (next : Activation) (elements : List Elem) (budget : ℕ) → slice_get all (length before) ≡ Some next
     → outcome_next code all before elements budget ≡ outcome_by code next elements budget
 outcome_is code all before next elements budget at =
-    ap (λ (x : Option Activation). option_map_or (λ r. outcome_of (Poisoned r) []) (least_root elements) (option_map_or (λ (a : Activation). task_outcome code a (values_of elements) budget) x over_budget)) at
+    ap (λ (x : Option Activation). option_map_or (λ r. outcome_of (Poisoned r) []) (least_root elements) (option_map_or (λ (a : Activation). code_outcome code a (values_of elements) budget) x over_budget)) at
 
 -- the streams of its windows are among those of its spans
 pub windows_exist : (ws : List Window) (spans : List Span) (n : ℕ) → spans ≡ map span_of ws → All (λ (s : Span). s.stream < n) spans → (k : ℕ) (d : Window) → k < length ws → (get_or ws k d).claim.stream < n

@@ -26,7 +26,7 @@ with_kept firsts elements k =
     else slice_set elements k.place.stream
     (with_element (slice_index firsts k.place.stream) (slice_index_or elements k.place.stream []) k.place.position k.value)
 
--- those with all that is kept, the last one first
+-- the elements of streams with all that is kept, of which the last one is put there first
 abbrev pub with_all_kept : (firsts : List ℕ) → List (List (Option Elem)) → List Kept → List (List (Option Elem))
 with_all_kept firsts elements [] = elements
 with_all_kept firsts elements (k ∷ kept) = with_kept firsts (with_all_kept firsts elements kept) k

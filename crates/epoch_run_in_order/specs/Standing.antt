@@ -10,7 +10,7 @@ use Rattle.flow_core_laws.specs.declared.elem.Elem.{Elem}
 use Rattle.flow_core_laws.specs.declared.outcome.Outcome.{Outcome}
 use Rattle.flow_core_laws.specs.declared.task_end.TaskEnd.TheVariants.{Poisoned}
 use Rattle.std.specs.Option.{option_map_or}
-use Rattle.os_code.specs.Outcomes.{task_outcome}
+use Rattle.os_code.specs.Outcomes.{code_outcome}
 use Rattle.flow_core_laws.specs.Streams.{stream_meaning}
 use Rattle.flow_core_laws.specs.Window.{windows_of}
 use Rattle.flow_core_laws.specs.declared.activation.Activation.{Activation}
@@ -31,7 +31,7 @@ meaning_in code all before input budget = stream_meaning before input (frame_out
 -- what an activation makes of its inputs: poisoned by the least root among them, or what its task makes of the values
 abbrev pub outcome_by : Parts → Activation → List Elem → (budget : ℕ) → Outcome
 outcome_by code activation elements budget =
-    option_map_or (λ root. outcome_of (Poisoned root) []) (least_root elements) (task_outcome code activation (values_of elements) budget)
+    option_map_or (λ root. outcome_of (Poisoned root) []) (least_root elements) (code_outcome code activation (values_of elements) budget)
 
 -- The activations before have run in order: each has ended as it means among all, and the streams hold what they wrote.
 pub record StandsBehind (code : Parts) (all before : List Activation) (input : List ℕ) (budget : ℕ) (order : InOrder) : Type 0 where
@@ -54,17 +54,17 @@ pub record IsReady (code : Code) (order : InOrder) : Type 0 where
   pub streams : length order.streams.elements ≡ code.streams
   pub firsts : length order.streams.firsts ≡ code.streams
 
--- activations are the next ones of a layout behind so many, to its end, and fit the code
+-- activations are those of a layout behind its first `count`, to its end, and fit the code
 pub record AreLast (code : Code) (layout : Layout) (count : ℕ) (next : List Activation) : Type 0 where
   pub whole : IsLayout layout
   pub streams : length layout.writers ≡ code.streams
-  pub given : List Activation
-  pub is_of : IsLayoutOf layout given
-  pub within : count ≤ length given
-  pub are_next : next ≡ drop count given
+  pub in_layout : List Activation
+  pub is_of : IsLayoutOf layout in_layout
+  pub within : count ≤ length in_layout
+  pub are_next : next ≡ drop count in_layout
   pub fit : All (Fits (parts_of code)) next
 
--- spans are those of the next activation, behind so many others
+-- spans are those of the next activation, behind `count` others
 pub record AreNext (count : ℕ) (next : Activation) (spans : List Span) : Type 0 where
   pub before : List Activation
   pub as_many : length before ≡ count

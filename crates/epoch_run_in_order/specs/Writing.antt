@@ -14,7 +14,7 @@ abbrev pub with_span : Option ℕ → List ℤ → List (List (Option Elem)) →
 with_span root outputs elements span =
     if span.write then slice_set elements span.stream (slice_index_or elements span.stream [] ++ written_through root outputs span) else elements
 
--- those with what it writes through all its spans
+-- the elements of streams with what an activation writes through all its spans
 abbrev pub with_spans : Option ℕ → List ℤ → List (List (Option Elem)) → List Span → List (List (Option Elem))
 with_spans root outputs elements [] = elements
 with_spans root outputs elements (span ∷ spans) = with_spans root outputs (with_span root outputs elements span) spans

@@ -33,7 +33,7 @@ pub struct Apart {
 }
 
 impl Apart {
-    /// A run apart from so many activations, behind which the write cursors are these. It takes memory for what the code's tasks need, and a list
+    /// A run apart from the first `first` activations, behind which the write cursors are these. It takes memory for what the code's tasks need, and a list
     /// for each stream.
     pub fn behind(alloc: Global, code: &Code, first: u32, writes: &[u64]) -> Result<Apart, Memory>
         requires streams { length writes.now ≡ code.now.streams }

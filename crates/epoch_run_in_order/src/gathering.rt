@@ -109,7 +109,7 @@ impl Inputs {
         Ok(())
     }
 
-    /// Makes room for so many more values.
+    /// Makes room for `more` more values.
     #[inline(always)]
     fn make_room(&mut self, more: usize) -> Result<(), Memory>
         ensures room { OnOk result (self.new.count + more ≤ vec_len self.new.places) }

@@ -10,10 +10,9 @@ ghost use Rattle.stream_match.specs.Kept.{kept_of};
 ghost use Rattle.stream_match_layouts.specs.Lawful.{AreLawful};
 ghost use Rattle.epoch_run_in_order.specs.Standing.{StandsBehind};
 
-use crate::cursors::cursor_of;
 use crate::in_order::{HeldInOrder, InOrder};
 use crate::streams::Streams;
-use epoch_run_carrying::add_elements;
+use epoch_run_carrying::{add_elements, cursor_of};
 use epoch_run_in_order_laws::laws::in_order_and_in_epochs;
 use flow_core_laws::{Elem, Ends};
 use os_io::{List, Memory};

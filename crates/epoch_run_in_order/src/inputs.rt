@@ -14,7 +14,7 @@ pub(crate) struct Inputs {
 }
 
 impl Inputs {
-    /// Nothing that was read.
+    /// Inputs before anything is read.
     pub fn new(alloc: Global) -> Inputs {
         Inputs {
             places: Vec::new(alloc),

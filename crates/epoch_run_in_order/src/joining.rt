@@ -8,9 +8,9 @@ ghost use Rattle.epoch_run_in_order.specs.Joining.{AreJoinedTo, with_joined};
 ghost use Rattle.epoch_run_in_order.specs.Standing.{IsReady, StandsApart, StandsBehind};
 
 use crate::apart::Apart;
-use crate::cursors::cursor_of;
 use crate::in_order::InOrder;
 use crate::streams::Streams;
+use epoch_run_carrying::cursor_of;
 use epoch_run_in_order_laws::laws::apart_and_joined;
 use flow_core_laws::Elem;
 use os_io::{List, Memory};
@@ -83,7 +83,7 @@ fn overlap(first: u64, held: usize, other_first: u64, other_held: usize) -> usiz
     past.min(other_held as u64) as usize
 }
 
-/// Adds the elements of a slice but for so many first ones.
+/// Adds the elements of a slice but for the first `past`.
 fn add_from(
     elements: &mut List<Option<Elem>>,
     more: &[Option<Elem>],

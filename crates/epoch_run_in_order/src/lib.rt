@@ -8,7 +8,6 @@
 
 mod apart;
 mod behind;
-mod cursors;
 mod gathering;
 mod giving_up;
 mod holding;

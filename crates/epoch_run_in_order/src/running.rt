@@ -18,6 +18,7 @@ ghost use Rattle.epoch_run_in_order.specs.Standing.{AreNext, IsReady, StandsApar
 use crate::in_order::InOrder;
 use crate::inputs::Inputs;
 use epoch_run_in_order_laws::laws::apart_and_joined;
+use flow_core::fit;
 use flow_core_laws::{Activation, TaskEnd};
 use os_code::Code;
 use os_io::Memory;
@@ -114,15 +115,4 @@ fn end_of(
         scratch,
         budget,
     ))
-}
-
-/// Gives a buffer so many places, whatever they hold.
-fn fit(outputs: &mut Vec<i32>, count: usize) -> Result<(), Memory>
-    ensures { OnOk result (length outputs.new.items ≡ count) }
-{
-    if outputs.len() == count {
-        return Ok(());
-    }
-    outputs.resize(count, 0)?;
-    Ok(())
 }

@@ -22,12 +22,12 @@ use stream_match_layouts::Span;
 pub struct Streams {
     /// For each stream its elements from a position on: of the output all, in a run apart those that it wrote. The input has none here.
     pub elements: List<List<Option<Elem>>>,
-    /// For each stream that position.
+    /// For each stream the position of its first element here.
     pub firsts: List<u64>,
 }
 
 impl Streams {
-    /// So many streams without elements.
+    /// `count` streams without elements.
     pub fn new(alloc: Global, count: u32) -> Result<Streams, Memory>
         ensures elements { IfOk result (λ streams. streams.elements ≡ replicate count []) }
         ensures firsts { IfOk result (λ streams. streams.firsts ≡ replicate count 0) }

@@ -6,8 +6,8 @@ ghost use Rattle.stream_match.specs.Kept.{kept_of};
 ghost use Rattle.stream_match_layouts.specs.Layout.{IsLayout};
 ghost use Rattle.epoch_run_in_order.specs.Behind.{AreBehind, blank_on, first_on, with_all_kept, with_element, with_kept};
 
-use crate::cursors::cursor_of;
 use crate::streams::Streams;
+use epoch_run_carrying::cursor_of;
 use flow_core_laws::Elem;
 use os_io::{List, Memory};
 use std::alloc::Global;
@@ -94,7 +94,7 @@ fn blank_on(alloc: Global, layout: &Layout, stream: usize) -> Result<List<Option
     blank(alloc, count)
 }
 
-/// So many elements that aren't there.
+/// A list of `count` elements that aren't there.
 fn blank(alloc: Global, count: u64) -> Result<List<Option<Elem>>, Memory>
     ensures { IfOk result (λ blank. blank ≡ replicate count None) }
 {

@@ -27,7 +27,7 @@ pub(crate) fn write(
     }
 }
 
-/// Adds so many poisoned elements with one root.
+/// Adds `count` poisoned elements with one root.
 fn add_poison(elements: &mut List<Option<Elem>>, root: u32, count: u32) -> Result<(), Memory>
     ensures { OnOk result (elements.new ≡ elements.old ++ replicate count (Some (elem.Poison root))) }
 {

@@ -14,7 +14,7 @@ use Rattle.flow_core_laws.specs.declared.activation.Activation.{Activation}
 use Rattle.flow_core_laws.specs.declared.claim.Claim.{Claim}
 use Rattle.flow_core_laws.specs.declared.elem.Elem.{Elem}
 use Rattle.flow_core_laws.specs.declared.outcome.Outcome.{Outcome}
-use Rattle.flow_core_laws.specs.Element.{fed, nobody, written}
+use Rattle.flow_core_laws.specs.Element.{fed, nobody, element_written}
 use Rattle.flow_core_laws.specs.FirstPosition.{first_position, is_write_to, write_cursor}
 use Rattle.flow_core_laws.specs.Outcome.{State, outcome_at}
 use Rattle.flow_core_laws.specs.Place.{Place}
@@ -152,8 +152,8 @@ windows_one_more before next =
     ∙ ap (λ (ws : List Window). ws ++ windows_of acts n) (flat_map-range-same (windows_of acts) (windows_of before) 0 n (λ k low high. windows_of_more before (next ∷ []) k (omega arith)))
 
 -- the elements of a window by the outcome of its activation
-window_by_outcome : (state : State) (w : Window) (o : Option Outcome) → outcome_at state w.activation ≡ o → window_elements state w ≡ map (λ place. option_and_then (λ (q : Outcome). written w.activation q place) o) (range_with_len w.offset w.claim.horizon)
-window_by_outcome state w o h = ap (λ (p : Option Outcome). map (λ place. option_and_then (λ (q : Outcome). written w.activation q place) p) (range_with_len w.offset w.claim.horizon)) h
+window_by_outcome : (state : State) (w : Window) (o : Option Outcome) → outcome_at state w.activation ≡ o → window_elements state w ≡ map (λ place. option_and_then (λ (q : Outcome). element_written w.activation q place) o) (range_with_len w.offset w.claim.horizon)
+window_by_outcome state w o h = ap (λ (p : Option Outcome). map (λ place. option_and_then (λ (q : Outcome). element_written w.activation q place) p) (range_with_len w.offset w.claim.horizon)) h
 
 pub elements_grow : ElementsGrow
 elements_grow before next input state outcome stream positive len =
@@ -189,4 +189,4 @@ elements_grow before next input state outcome stream positive len =
     later : (i : ℕ) (w : Window) → slice_get (windows_of acts n) i ≡ Some w → window_elements more w ≡ written_in n outcome w
     later i w at =
         let e : w.activation ≡ n = window_activation acts n w (i, at) in
-        window_by_outcome more w (Some outcome) (ap (outcome_at more) e ∙ last) ∙ ap (λ a. map (written a outcome) (range_with_len w.offset w.claim.horizon)) e
+        window_by_outcome more w (Some outcome) (ap (outcome_at more) e ∙ last) ∙ ap (λ a. map (element_written a outcome) (range_with_len w.offset w.claim.horizon)) e

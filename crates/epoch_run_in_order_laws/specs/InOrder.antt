@@ -4,7 +4,7 @@ use Rattle.std.specs.List.{range_with_len, flat_map}
 use Rattle.flow_core_laws.specs.declared.activation.Activation.{Activation}
 use Rattle.flow_core_laws.specs.declared.elem.Elem.{Elem}
 use Rattle.flow_core_laws.specs.declared.outcome.Outcome.{Outcome}
-use Rattle.flow_core_laws.specs.Element.{written}
+use Rattle.flow_core_laws.specs.Element.{element_written}
 use Rattle.flow_core_laws.specs.FirstPosition.{is_write_to, read_cursor}
 use Rattle.flow_core_laws.specs.Outcome.{State}
 use Rattle.flow_core_laws.specs.Place.{Place, input_places, places_from, written_count}
@@ -28,7 +28,7 @@ next_reads before next input state =
 
 -- What an activation with a number and an outcome wrote in a window, by position.
 abbrev pub written_in : ℕ → Outcome → Window → List (Option Elem)
-written_in number outcome w = map (written number outcome) (range_with_len w.offset w.claim.horizon)
+written_in number outcome w = map (element_written number outcome) (range_with_len w.offset w.claim.horizon)
 
 -- What it wrote to a stream, window by window.
 abbrev pub written_to : ℕ → Outcome → List Window → ℕ → List (Option Elem)
@@ -50,7 +50,7 @@ pub record HoldElements (activations : List Activation) (input : List ℕ) (stat
 abbrev pub kept_on : (stream first : ℕ) → List (Option Elem) → List Kept
 kept_on stream first elements = elements_at (places_from stream first (length elements)) elements
 
--- Those of all declared streams, by stream.
+-- What is kept of all declared streams, by stream.
 abbrev pub kept_in : List (List (Option Elem)) → (firsts : List ℕ) → List Kept
 kept_in elements firsts =
     flat_map (λ stream. kept_on stream (slice_index firsts stream) (slice_index_or elements stream [])) (range_with_len 2 (length elements - 2))

@@ -20,7 +20,7 @@ use Rattle.stream_match_layouts.specs.Writers.{span_at}
 use Rattle.stream_match_layouts.specs.declared.layout.Layout.{Layout}
 use Rattle.stream_match_layouts.specs.declared.span.Span.{Span}
 use Rattle.epoch_run_ready.specs.Lowering.{as_before, is_written_on, IsLowered, lowered, to_write}
-use Rattle.epoch_run_ready.specs.Waiting.{AreMissing, behind, CannotCome, is_stuck, stuck, written_until}
+use Rattle.epoch_run_ready.specs.Waiting.{AreMissing, behind, PositionCannotCome, is_stuck, stuck, written_until}
 
 -- one more span
 pub lowered_more : (spans : List Span) (stream before now after : ℕ) (span : Span) → Contains spans span → IsLowered spans stream before now → after ≡ lowered stream span now → IsLowered spans stream before after
@@ -61,7 +61,7 @@ behind_missing layout is waits = record { one_each = length-set layout.writes 0 
     until stream (inr other) = subst (λ n. written_until layout stream ≤ n) (sym (get_or-set_other layout.writes 0 stream layout.input_len 0 other)) (at_other stream other (stream == 0) refl)
 
 -- what a stuck activation writes
-written_missing : (layout : Layout) (is : IsLayout layout) (waits : List Bool) (a : ℕ) (s : Span) → a < frame_count layout → Has (spans_of layout a) s → s.write ≡ true → is_stuck waits a ≡ true → CannotCome layout waits s.stream s.first
+written_missing : (layout : Layout) (is : IsLayout layout) (waits : List Bool) (a : ℕ) (s : Span) → a < frame_count layout → Has (spans_of layout a) s → s.write ≡ true → is_stuck waits a ≡ true → PositionCannotCome layout waits s.stream s.first
 written_missing layout is waits a s lt has writes marked =
     let n = frames_are layout is in
     let a_lt : a < length is.activations = omega (arith, n) in
@@ -85,8 +85,8 @@ pub missing_lowered : (layout : Layout) (is : IsLayout layout) (waits : List Boo
     → ((stream : ℕ) → IsLowered spans stream (get_or old stream 0) (get_or new stream 0)) → AreMissing layout waits new
 missing_lowered layout is waits a spans old new lt spans_are marked are len low = record { one_each = len ∙ are.one_each; cannot_come = λ stream s_lt. at stream (are.cannot_come stream s_lt) (low stream) }
   where
-    at : (stream : ℕ) → CannotCome layout waits stream (get_or old stream 0) → IsLowered spans stream (get_or old stream 0) (get_or new stream 0) → CannotCome layout waits stream (get_or new stream 0)
-    at stream before (as_before e) = subst (CannotCome layout waits stream) (sym e) before
+    at : (stream : ℕ) → PositionCannotCome layout waits stream (get_or old stream 0) → IsLowered spans stream (get_or old stream 0) (get_or new stream 0) → PositionCannotCome layout waits stream (get_or new stream 0)
+    at stream before (as_before e) = subst (PositionCannotCome layout waits stream) (sym e) before
     at stream before (to_write span is_one writes on first) =
         let has = has_contained (spans_of layout a) span (subst (λ xs. Contains xs span) spans_are is_one) in
-        subst (λ n. CannotCome layout waits n (get_or new stream 0)) on (subst (CannotCome layout waits span.stream) (sym first) (written_missing layout is waits a span lt has writes marked))
+        subst (λ n. PositionCannotCome layout waits n (get_or new stream 0)) on (subst (PositionCannotCome layout waits span.stream) (sym first) (written_missing layout is waits a span lt has writes marked))

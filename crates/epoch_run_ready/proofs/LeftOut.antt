@@ -2,7 +2,7 @@
 use Rattle.std.proofs.Common.{◌≡◌, ℕ, ◌<◌, ◌⊎◌, List, Option, Some, None, Bool, true, false, inl, inr, length, get_or, sym, ap, ◌∙◌, subst}
 use Rattle.std.specs.Prelude.{Contains, slice_get}
 use Rattle.flow_core_epochs.proofs.Members.{Has}
-use Rattle.flow_core_epochs.specs.Epoch.{CannotCome, LeaveOutWaiting, number_in, open_in}
+use Rattle.flow_core_epochs.specs.Epoch.{CannotCome, LeaveOutWaiting, number_among, open_in}
 use Rattle.flow_core_laws.specs.Place.{Place, input_places}
 use Rattle.flow_core_laws.specs.Streams.{stream_source}
 use Rattle.flow_core_laws.specs.declared.activation.Activation.{Activation}
@@ -23,7 +23,7 @@ module _ (layout : Layout) (activations : List Activation) (of : IsLayoutOf layo
   Waits frames a = (p : Place) × (Contains (input_places activations a) p) × CannotCome ends frames (stream_source activations input p)
 
   pub left_out_wait : (base : List Bool) (frames : List ℕ) → ((a : ℕ) (s : Span) → a < frame_count layout → Has (spans_of layout a) s → s.stream < length layout.writers) → ((a : ℕ) → get_or base a false ≡ true → (f : ℕ) × (slice_get readers f ≡ Some a))
-      → ((fs : List ℕ) → ((a : ℕ) → get_or base a false ≡ true → number_in fs a ≡ None) → (a : ℕ) → a < length activations → get_or base a false ≡ true → Waits fs a) → AreUnmarked layout readers base frames → LeaveOutWaiting activations input ends frames
+      → ((fs : List ℕ) → ((a : ℕ) → get_or base a false ≡ true → number_among fs a ≡ None) → (a : ℕ) → a < length activations → get_or base a false ≡ true → Waits fs a) → AreUnmarked layout readers base frames → LeaveOutWaiting activations input ends frames
   left_out_wait base frames exist base_readers base_wait are =
       let ascend : Ascend readers = subst Ascend (sym open_are) (open_readers_ascend ends (frame_count layout)) in
       subst (LeaveOutWaiting activations input ends) (sym (are.others ascend ∙ ap (unmarked are.waits) open_are))

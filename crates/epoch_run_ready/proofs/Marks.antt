@@ -6,7 +6,7 @@ use Rattle.std.proofs.lemmas.List.{get_or-set_same, get_or-set_other, length-set
 use Rattle.stream_match_layouts.specs.Spans.{spans_of}
 use Rattle.stream_match_layouts.specs.declared.layout.Layout.{Layout}
 use Rattle.stream_match_layouts.specs.declared.span.Span.{Span}
-use Rattle.epoch_run_ready.specs.Waiting.{AreMarked, AreMissing, CannotCome, behind, stuck, HasWaitingSpan, IsWaiting, is_stuck}
+use Rattle.epoch_run_ready.specs.Waiting.{AreMarked, AreMissing, PositionCannotCome, behind, stuck, HasWaitingSpan, IsWaiting, is_stuck}
 
 -- one list of marks has all that another has
 abbrev pub HasMarks : List Bool → List Bool → Type 0
@@ -16,7 +16,7 @@ module _ (layout : Layout) (waits more : List Bool) (has : HasMarks waits more) 
   stuck_more : (a : ℕ) → is_stuck waits a ≡ true → is_stuck more a ≡ true
   stuck_more a h = has a h
 
-  cannot_more : (stream position : ℕ) → CannotCome layout waits stream position → CannotCome layout more stream position
+  cannot_more : (stream position : ℕ) → PositionCannotCome layout waits stream position → PositionCannotCome layout more stream position
   cannot_more stream position (behind le) = behind le
   cannot_more stream position (stuck number other lt writes on from to s) = stuck number other lt writes on from to (stuck_more _ s)
 

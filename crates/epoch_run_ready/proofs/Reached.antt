@@ -9,7 +9,7 @@ use Rattle.flow_core_epochs.proofs.Frames.{open_all, open_each}
 use Rattle.flow_core_epochs.proofs.Members.{Has, in_map}
 use Rattle.flow_core_epochs.proofs.Reading.{has_contained, read_in}
 use Rattle.flow_core_epochs.proofs.Written.{written_in}
-use Rattle.flow_core_epochs.specs.Epoch.{CannotCome, left_out, number_in, open_in, unwritten}
+use Rattle.flow_core_epochs.specs.Epoch.{CannotCome, left_out, number_among, open_in, unwritten}
 use Rattle.flow_core_laws.specs.declared.elem.Elem.TheVariants.{Value}
 use Rattle.flow_core_laws.specs.Element.{Source, fed, initial, nobody}
 use Rattle.flow_core_laws.specs.Outcome.{outcome_at}
@@ -34,7 +34,7 @@ not_fed None a place e = absurd (cc)
 not_fed (Some byte) a place e = absurd (cc)
 
 -- what can't come where none runs can't come where some run and its producer isn't one of them
-none_of_them : (ends : List (Option TaskEnd)) (frames : List ℕ) (source : Source) → ((a place : ℕ) → source ≡ fed a place → outcome_at ends a ≡ None → number_in frames a ≡ None) → CannotCome ends [] source → CannotCome ends frames source
+none_of_them : (ends : List (Option TaskEnd)) (frames : List ℕ) (source : Source) → ((a place : ℕ) → source ≡ fed a place → outcome_at ends a ≡ None → number_among frames a ≡ None) → CannotCome ends [] source → CannotCome ends frames source
 none_of_them ends frames source out unwritten = unwritten
 none_of_them ends frames source out (left_out a place none was) = left_out a place none (out a place refl none)
 
@@ -69,14 +69,14 @@ module _ (layout : Layout) (activations : List Activation) (of : IsLayoutOf layo
           absurd (omega (arith, high, low, from, ap (λ n. get_or are.low n 0) stream))
 
   -- so what it reads can't come, where none of them runs
-  pub waits_still : (frames : List ℕ) → WaitBefore activations input ends first → ((a : ℕ) → get_or base a false ≡ true → number_in frames a ≡ None) → (a : ℕ) → a < length activations → get_or base a false ≡ true
+  pub waits_still : (frames : List ℕ) → WaitBefore activations input ends first → ((a : ℕ) → get_or base a false ≡ true → number_among frames a ≡ None) → (a : ℕ) → a < length activations → get_or base a false ≡ true
       → (p : Place) × (Contains (input_places activations a) p) × CannotCome ends frames (stream_source activations input p)
   waits_still frames wait out a lt m =
       let (f, at) = are.are_judged.are_readers a m in
       let (p, reads, cannot) = wait a (are.are_judged.are_before a m) (open_each ends (frame_count layout) f a at).1 in
       (p, reads, none_of_them ends frames (stream_source activations input p) (λ b place e none. producer_out p (has_contained (input_places activations a) p reads) b place e none (cases_eq p.stream 0)) cannot)
     where
-      producer_out : (p : Place) → Has (input_places activations a) p → (b place : ℕ) → stream_source activations input p ≡ fed b place → outcome_at ends b ≡ None → (p.stream ≡ 0) ⊎ (p.stream ≢ 0) → number_in frames b ≡ None
+      producer_out : (p : Place) → Has (input_places activations a) p → (b place : ℕ) → stream_source activations input p ≡ fed b place → outcome_at ends b ≡ None → (p.stream ≡ 0) ⊎ (p.stream ≢ 0) → number_among frames b ≡ None
       producer_out p reads b place e none (inl zero_is) =
           let is : (p.stream == 0) ≡ true = ap (λ n. n == 0) zero_is in
           absurd (not_fed (slice_get input p.position) b place (sym (ap (λ (t : Bool). cond t (input_source input p.position) (produced_source activations p.stream p.position)) is) ∙ e))
@@ -85,7 +85,7 @@ module _ (layout : Layout) (activations : List Activation) (of : IsLayoutOf layo
           same_fed : (c d q r : ℕ) → fed c q ≡ fed d r → c ≡ d
           same_fed c d q r h = cc
 
-          by_producer : (o : Option Window) → producer activations p.stream p.position ≡ o → number_in frames b ≡ None
+          by_producer : (o : Option Window) → producer activations p.stream p.position ≡ o → number_among frames b ≡ None
           by_producer None made = absurd (let never : nobody ≡ fed b place = sym (produced_by_nobody activations input p other made) ∙ e in cc)
           by_producer (Some w) made =
               let same : w.activation ≡ b = same_fed w.activation b (w.offset + (p.position - w.first)) place (sym (produced_by activations input p w other made) ∙ e) in

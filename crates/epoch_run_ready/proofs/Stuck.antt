@@ -13,7 +13,7 @@ use Rattle.flow_core_epochs.proofs.Members.{Has, in_filter, in_flat_map, in_map,
 use Rattle.flow_core_epochs.proofs.Reading.{has_contained}
 use Rattle.flow_core_epochs.proofs.Written.{is_written_test, LiesIn}
 use Rattle.flow_core_epochs.specs.Epoch as epoch
-use Rattle.flow_core_epochs.specs.Epoch.{LeaveOutWaiting, number_in, open_in, left_out, unwritten}
+use Rattle.flow_core_epochs.specs.Epoch.{LeaveOutWaiting, number_among, open_in, left_out, unwritten}
 use Rattle.flow_core_laws.proofs.Windows.{producer_of}
 use Rattle.flow_core_laws.specs.declared.elem.Elem.TheVariants.{Value}
 use Rattle.flow_core_laws.specs.Element.{fed, initial, nobody}
@@ -34,7 +34,7 @@ use Rattle.stream_match_layouts.specs.Spans.{frame_count, spans_of}
 use Rattle.stream_match_layouts.specs.Writers.{HasWriters, span_at, writer_at, writers_on}
 use Rattle.stream_match_layouts.specs.declared.layout.Layout.{Layout}
 use Rattle.stream_match_layouts.specs.declared.span.Span.{Span}
-use Rattle.epoch_run_ready.specs.Waiting.{CannotCome, behind, stuck, HasWaitingSpan, SpanWaits, is_stuck, written_until}
+use Rattle.epoch_run_ready.specs.Waiting.{PositionCannotCome, behind, stuck, HasWaitingSpan, SpanWaits, is_stuck, written_until}
 
 -- numbers ascend
 abbrev Ascends : List ℕ → Type 0
@@ -90,10 +90,10 @@ module _ (layout : Layout) (activations : List Activation) (of : IsLayoutOf layo
   frames = filter (λ a. not (get_or waits a false)) (open_in ends (frame_count layout))
 
   -- what has a mark is no frame
-  pub not_frame : (a : ℕ) → get_or waits a false ≡ true → number_in frames a ≡ None
-  not_frame a m = by_number (number_in frames a) refl
+  pub not_frame : (a : ℕ) → get_or waits a false ≡ true → number_among frames a ≡ None
+  not_frame a m = by_number (number_among frames a) refl
     where
-      by_number : (n : Option ℕ) → number_in frames a ≡ n → number_in frames a ≡ None
+      by_number : (n : Option ℕ) → number_among frames a ≡ n → number_among frames a ≡ None
       by_number None e = e
       by_number (Some f) e =
           let passes = (of_filter test (open_in ends (frame_count layout)) a (f, numbers_back frames a f e)).1 in
@@ -127,7 +127,7 @@ module _ (layout : Layout) (activations : List Activation) (of : IsLayoutOf layo
       by_byte None e = refl
       by_byte (Some byte) e = absurd (omega (arith, over, slice_get_within input position byte e))
 
-  cannot_come : (p : Place) → p.stream < length layout.writers → CannotCome layout waits p.stream p.position → epoch.CannotCome ends frames (stream_source activations input p)
+  cannot_come : (p : Place) → p.stream < length layout.writers → PositionCannotCome layout waits p.stream p.position → epoch.CannotCome ends frames (stream_source activations input p)
   cannot_come p exists (behind le) = by_stream (p.stream == 0) refl
     where
       by_stream : (b : Bool) → (p.stream == 0) ≡ b → epoch.CannotCome ends frames (stream_source activations input p)
@@ -162,7 +162,7 @@ module _ (layout : Layout) (activations : List Activation) (of : IsLayoutOf layo
       let stream : s.stream ≡ w.claim.stream = sym (ap (λ (t : Span). t.stream) w_is) in
       let at : Has (places_of w) p = in_map (λ position. record { stream = w.claim.stream; position = position }) (range_with_len w.first w.claim.horizon) h.waits_for.position (in_range w.first w.claim.horizon h.waits_for.position low high) in
       let read = in_flat_map places_of (filter (λ (w : Window). not w.claim.write) (windows_of activations a)) w p (in_filter (λ (w : Window). not w.claim.write) (windows_of activations a) w w_in reads) at in
-      (p, contained (input_places activations a) p read, cannot_come p (subst (λ n. n < length layout.writers) stream (exist s has)) (subst (λ n. CannotCome layout waits n h.waits_for.position) stream h.waits_for.cannot_come))
+      (p, contained (input_places activations a) p read, cannot_come p (subst (λ n. n < length layout.writers) stream (exist s has)) (subst (λ n. PositionCannotCome layout waits n h.waits_for.position) stream h.waits_for.cannot_come))
 
   pub leave_out : ((a : ℕ) → a < length activations → get_or waits a false ≡ true → (p : Place) × (Contains (input_places activations a) p) × epoch.CannotCome ends frames (stream_source activations input p))
       → LeaveOutWaiting activations input ends frames
@@ -181,7 +181,7 @@ module _ (layout : Layout) (activations : List Activation) (of : IsLayoutOf layo
       ascend : Ascends (filter (λ a. not (get_or waits a false)) (open_in ends (frame_count layout)))
       ascend = ascends_filter test all_open (open_ascend ends (frame_count layout))
 
-      by_mark : (a : ℕ) → a < length activations → outcome_at ends a ≡ None → number_in frames a ≡ None → (b : Bool) → get_or waits a false ≡ b
+      by_mark : (a : ℕ) → a < length activations → outcome_at ends a ≡ None → number_among frames a ≡ None → (b : Bool) → get_or waits a false ≡ b
           → (p : Place) × (Contains (input_places activations a) p) × epoch.CannotCome ends frames (stream_source activations input p)
       by_mark a lt none out true m = wait a lt m
       by_mark a lt none out false m =

@@ -17,11 +17,11 @@ abbrev pub written_until : Layout → ℕ → ℕ
 written_until layout stream = if stream == 0 then layout.input_len else slice_index layout.writes stream
 
 -- the element at a position can't come: it lies behind all that is written, or a stuck activation writes it
-pub data CannotCome (layout : Layout) (waits : List Bool) (stream position : ℕ) : Type 0 where
-  behind : written_until layout stream ≤ position → CannotCome layout waits stream position
+pub data PositionCannotCome (layout : Layout) (waits : List Bool) (stream position : ℕ) : Type 0 where
+  behind : written_until layout stream ≤ position → PositionCannotCome layout waits stream position
   stuck : (number : ℕ) → stream ≢ 0 → number < length layout.spans → (span_at layout number).write ≡ true → (span_at layout number).stream ≡ stream
       → (span_at layout number).first ≤ position → position < end_of (span_at layout number) → is_stuck waits (span_at layout number).frame ≡ true
-      → CannotCome layout waits stream position
+      → PositionCannotCome layout waits stream position
 
 -- a span reads such an element
 pub record SpanWaits (layout : Layout) (waits : List Bool) (span : Span) : Type 0 where
@@ -29,9 +29,9 @@ pub record SpanWaits (layout : Layout) (waits : List Bool) (span : Span) : Type 
   pub position : ℕ
   pub from : span.first ≤ position
   pub to : position < end_of span
-  pub cannot_come : CannotCome layout waits span.stream position
+  pub cannot_come : PositionCannotCome layout waits span.stream position
 
--- one of some spans does
+-- one of these spans reads an element that can't come
 pub record HasWaitingSpan (layout : Layout) (waits : List Bool) (spans : List Span) : Type 0 where
   pub span : Span
   pub is_one : Contains spans span
@@ -60,7 +60,7 @@ pub record WaitAround (layout : Layout) (readers : List ℕ) (first : ℕ) : Typ
 -- Of each stream a position is known whose element can't come.
 pub record AreMissing (layout : Layout) (waits : List Bool) (missing : List ℕ) : Type 0 where
   pub one_each : length missing ≡ length layout.writers
-  pub cannot_come : (stream : ℕ) → stream < length layout.writers → CannotCome layout waits stream (slice_index missing stream)
+  pub cannot_come : (stream : ℕ) → stream < length layout.writers → PositionCannotCome layout waits stream (slice_index missing stream)
 
 -- Frames are the readers that have no mark, if the readers ascend; each that has a mark waits, or had one before.
 pub record AreUnmarked (layout : Layout) (readers : List ℕ) (before : List Bool) (frames : List ℕ) : Type 0 where

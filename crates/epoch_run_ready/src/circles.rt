@@ -82,8 +82,8 @@ fn lower_from(layout: &Layout, missing: &mut [u64], from: usize)
     }
 }
 
-/// Whether each activation from a number on reads an element that can't come, by marks of those that wait. The first one that isn't found to is the
-/// last that is looked at.
+/// Whether each activation from a number on reads an element that can't come, by marks of those that wait. It stops at
+/// the first one that isn't found to.
 fn each_waits(layout: &Layout, waits: &[bool], missing: &[u64], first: usize) -> bool
     requires layout { IsLayout layout.now }
     requires missing { AreMissing layout.now waits.now missing.now }

@@ -68,7 +68,7 @@ fn spans_between(layout: &Layout, readers: &[u32]) -> Option<(usize, usize)>
     )
 }
 
-/// Two numbers, where they are in order and none is above so many.
+/// Two numbers, where they are in order and none is above `count`.
 fn between(first: usize, end: usize, count: usize) -> Option<(usize, usize)>
     ensures ordered { IfSome result (λ numbers. numbers.0 ≤ numbers.1) }
     ensures within { IfSome result (λ numbers. numbers.1 ≤ count) }
@@ -80,7 +80,7 @@ fn between(first: usize, end: usize, count: usize) -> Option<(usize, usize)>
     }
 }
 
-/// Marks those of the first so many readers that wait, the last one first: so a mark goes from each to those before it that wait for it.
+/// Marks those of the first `count` readers that wait, the last one first: so a mark goes from each to those before it that wait for it.
 pub(crate) fn mark_back(
     layout: &Layout,
     waits: &mut [bool],

@@ -78,7 +78,7 @@ fn chosen(alloc: Global, layout: &Layout, readers: &[u32]) -> Result<List<u32>, 
     Ok(frames)
 }
 
-/// Those of the readers that have no mark and don't wait.
+/// The readers that have no mark and don't wait.
 fn others_than(
     alloc: Global,
     layout: &Layout,
@@ -104,7 +104,7 @@ fn others_than(
 }
 
 /// Those of the readers that have no mark and don't wait, where of each stream a position is known whose element can't come, and what reads
-/// such a one is among the first so many readers.
+/// such a one is among the first `count` readers.
 fn unmarked(
     alloc: Global,
     layout: &Layout,

@@ -101,7 +101,7 @@ module _ (streams : ℕ) (cs : List Claim) (reads writes : List ℕ) (reads_are 
 
 -- ---- the claims of an activation, one by one
 
--- Behind earlier claims, so many of an activation were added: the cursors stand behind them, and their spans are there.
+-- Behind earlier claims, the first `k` of an activation were added: the cursors stand behind them, and their spans are there.
 pub record HaveAdded (streams frame : ℕ) (earlier claims : List Claim) (k : ℕ) (now : Positions) : Type 0 where
   pub reads : now.cursors.reads ≡ map (λ s. read_cursor s (earlier ++ take k claims)) (range_with_len 0 streams)
   pub writes : now.cursors.writes ≡ map (λ s. write_cursor s (earlier ++ take k claims)) (range_with_len 0 streams)

@@ -10,7 +10,7 @@ use Rattle.flow_core_laws.specs.Place.{written_count}
 use Rattle.flow_core_laws.specs.declared.activation.Activation.{Activation}
 use Rattle.flow_core_laws.proofs.Stretches.{slice_get-append_left, slice_get-append_right}
 use Rattle.os_code.specs.Codes.{parts_of}
-use Rattle.os_code.specs.Outcomes.{control}
+use Rattle.os_code.specs.Outcomes.{main_control}
 use Rattle.os_code.specs.Tasks.{Fits}
 use Rattle.os_code.specs.declared.code.Code.{Code}
 use Rattle.os_code.specs.declared.parts.Parts.{Parts}
@@ -25,9 +25,9 @@ use Rattle.epoch_run_shares.proofs.Passing.{All-back}
 
 whole_same : (a b : RunSoFar) → IsSameRun a b → (whole b).activations ≡ (whole a).activations
 whole_same a b same =
-    ap (λ p. (control p b.input_len b.budget).activations) same.code
-    ∙ ap (λ n. (control a.code n b.budget).activations) same.input_len
-    ∙ ap (λ n. (control a.code a.input_len n).activations) same.budget
+    ap (λ p. (main_control p b.input_len b.budget).activations) same.code
+    ∙ ap (λ n. (main_control a.code n b.budget).activations) same.input_len
+    ∙ ap (λ n. (main_control a.code a.input_len n).activations) same.budget
 
 pub same_after : (a b c : RunSoFar) → IsSameRun a b → IsSameRun b c → IsSameRun a c
 same_after a b c one two = record { code = two.code ∙ one.code; input_len = two.input_len ∙ one.input_len; budget = two.budget ∙ one.budget }
@@ -42,13 +42,13 @@ module _ (code : Code) (input : List ℕ) (budget : ℕ) where
   pub is_within : (walk : Walk) (apart : Apart) → Stands code input budget walk apart → StandsWithin code input budget walk.control apart
   is_within walk apart st =
       let all : List Activation = (whole walk.control).activations in
-      let n = length-take walk.control.given all in
+      let n = length-take walk.control.created_by_now all in
       record {
         count = length (created_so_far walk.control);
         within = omega (arith, n);
         ready = st.ready;
         ran_to = st.ran_to ∙ st.walked.have_passed.count;
-        stands = subst (λ (xs : List Activation). StandsApart (parts_of code) all apart.first xs input budget apart.order) (sym (ap (λ k. take k all) n ∙ take_min walk.control.given all)) st.stands;
+        stands = subst (λ (xs : List Activation). StandsApart (parts_of code) all apart.first xs input budget apart.order) (sym (ap (λ k. take k all) n ∙ take_min walk.control.created_by_now all)) st.stands;
       }
 
   pub within_same : (a b : RunSoFar) (apart : Apart) → IsSameRun a b → StandsWithin code input budget b apart → StandsWithin code input budget a apart
@@ -72,13 +72,13 @@ module _ (code : Code) (input : List ℕ) (budget : ℕ) where
     every = (whole walk.control).activations
 
     abbrev rest : List Activation
-    rest = drop run.given every
+    rest = drop run.created_by_now every
 
     same_all : (whole run).activations ≡ every
     same_all = whole_same walk.control run given.same
 
     split : every ≡ (before ++ next) ++ rest
-    split = sym (take-append-drop run.given every) ∙ ap (λ xs. xs ++ rest) (sym (ap (take run.given) same_all) ∙ given.joined)
+    split = sym (take-append-drop run.created_by_now every) ∙ ap (λ xs. xs ++ rest) (sym (ap (take run.created_by_now) same_all) ∙ given.joined)
 
     run_code : run.code ≡ parts_of code
     run_code = given.same.code ∙ st.code_is
@@ -191,7 +191,7 @@ module _ (code : Code) (input : List ℕ) (budget : ℕ) where
       → StandsWithin code input budget last apart → IsShare (parts_of code) input control_budget budget apart
   is_share control_budget len start last apart len_is start_is same w =
       let e : (whole last).activations ≡ created (parts_of code) input control_budget =
-      whole_same start last same ∙ ap (λ (r : RunSoFar). (whole r).activations) start_is ∙ ap (λ n. (control (parts_of code) n control_budget).activations) len_is in
+      whole_same start last same ∙ ap (λ (r : RunSoFar). (whole r).activations) start_is ∙ ap (λ n. (main_control (parts_of code) n control_budget).activations) len_is in
       record {
         count = w.count;
         within = subst (λ (xs : List Activation). w.count ≤ length xs) e w.within;

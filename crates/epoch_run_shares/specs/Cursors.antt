@@ -1,6 +1,7 @@
 -- The cursors of streams, and how a claim moves them.
-use Rattle.std.specs.Prelude.{ℕ, ◌+◌, ◌^◌, ◌<◌, length, slice_index, slice_set, if◌then◌else◌}
+use Rattle.std.specs.Prelude.{ℕ, ◌+◌, ◌^◌, ◌<◌, length, slice_index}
 use Rattle.flow_core_laws.specs.declared.claim.Claim.{Claim}
+use Rattle.stream_match_layouts.specs.Cursors.{first_from, reads_behind, span_from, writes_behind}
 use Rattle.stream_match_layouts.specs.declared.span.Span.{Span}
 use Rattle.epoch_run_shares.specs.declared.cursors.Cursors.{Cursors}
 
@@ -13,23 +14,15 @@ pub record HasCursors (cursors : Cursors) (claim : Claim) : Type 0 where
 
 -- where a claim begins by the cursors
 abbrev pub first_of : Cursors → Claim → ℕ
-first_of cursors claim =
-    if claim.write then slice_index cursors.writes claim.stream else slice_index cursors.reads claim.stream + claim.skip
+first_of cursors claim = first_from cursors.reads cursors.writes claim
 
--- its span
+-- the span of a claim
 abbrev pub span_by : Cursors → (frame : ℕ) → Claim → (offset : ℕ) → Span
-span_by cursors frame claim offset = record {
-  frame = frame;
-  stream = claim.stream;
-  write = claim.write;
-  first = first_of cursors claim;
-  count = claim.horizon;
-  offset = offset;
-}
+span_by cursors frame claim offset = span_from (first_of cursors claim) frame claim offset
 
 -- the cursors behind it
 abbrev pub moved_by : Cursors → Claim → Cursors
 moved_by cursors claim = record {
-  reads = if claim.write then cursors.reads else slice_set cursors.reads claim.stream (first_of cursors claim + claim.burst);
-  writes = if claim.write then slice_set cursors.writes claim.stream (first_of cursors claim + claim.horizon) else cursors.writes;
+  reads = reads_behind cursors.reads cursors.writes claim;
+  writes = writes_behind cursors.reads cursors.writes claim;
 }

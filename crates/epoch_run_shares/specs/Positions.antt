@@ -10,7 +10,7 @@ use Rattle.stream_match_layouts.specs.Lawful.{AreLawful}
 use Rattle.epoch_run_shares.specs.Cursors.{moved_by, span_by}
 use Rattle.epoch_run_shares.specs.declared.positions.Positions.{Positions}
 
--- These activations were passed, over so many streams: the cursors stand behind them, and `count` is their number.
+-- These activations were passed, over `streams` streams: the cursors stand behind them, and `count` is their number.
 pub record HavePassed (streams : ℕ) (passed : List Activation) (positions : Positions) : Type 0 where
   pub reads : positions.cursors.reads ≡ map (λ stream. read_cursor stream (claims_of passed)) (range_with_len 0 streams)
   pub writes : positions.cursors.writes ≡ map (written_count passed) (range_with_len 0 streams)

@@ -34,7 +34,7 @@ pub record HaveRun (code : Code) (next : List Activation) (input : List ℕ) (bu
       → StandsApart (parts_of code) all before.first passed input budget before.order
       → StandsApart (parts_of code) all after.first (passed ++ next) input budget after.order
 
--- So many of them have, and all where it goes on.
+-- The first `count` of the next activations have run so, and all of them where the run goes on.
 pub record HaveRunSome (code : Code) (next : List Activation) (input : List ℕ) (budget : ℕ) (here : Positions) (before after : Apart) (on : Bool) : Type 0 where
   pub count : ℕ
   pub within : count ≤ length next

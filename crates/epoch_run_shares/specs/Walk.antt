@@ -13,7 +13,7 @@ pub record IsSameRun (before after : RunSoFar) : Type 0 where
   pub input_len : after.input_len ≡ before.input_len
   pub budget : after.budget ≡ before.budget
 
--- The control program has given at most so many of the next activations, and all that were asked for where it hasn't ended.
+-- The control program was asked for the next `at_most` activations and has given `next`: as many, where it hasn't ended.
 pub record HasGiven (at_most : ℕ) (before after : RunSoFar) (next : List Activation) (ended : Bool) : Type 0 where
   pub same : IsSameRun before after
   pub joined : created_so_far after ≡ created_so_far before ++ next

@@ -17,7 +17,7 @@ pub struct Cursors {
 }
 
 impl Cursors {
-    /// The span of an activation's next claim, where its windows before this one take so many inputs or outputs: it begins where the
+    /// The span of an activation's next claim, where its windows before this one take `offset` inputs or outputs: it begins where the
     /// claim's cursor stands, which moves behind it.
     pub fn take(&mut self, frame: u16, claim: &Claim, offset: u32) -> Span
         requires { HasCursors self.old claim.now }

@@ -15,3 +15,4 @@ mod walk;
 
 pub use cursors::Cursors;
 pub use share::run_share;
+pub use walk::STRETCH;

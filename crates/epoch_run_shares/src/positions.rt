@@ -25,7 +25,7 @@ pub(crate) struct Positions {
 }
 
 impl Positions {
-    /// Before the first activation, over so many streams.
+    /// Before the first activation, over `streams` streams.
     pub(crate) fn new(alloc: Global, streams: u32) -> Result<Positions, Memory>
         ensures { IfOk result (HavePassed streams []) }
     {
@@ -82,7 +82,7 @@ impl Positions {
         Ok(())
     }
 
-    /// Adds a claim of an activation, where its windows before this one take so many inputs or outputs.
+    /// Adds a claim of an activation, where its windows before this one take `offset` inputs or outputs.
     fn take(&mut self, frame: u16, claim: &Claim, offset: u32) -> Result<(), Memory>
         requires { HasCursors self.old.cursors claim.now }
         ensures { OnOk result (HasTaken self.old frame claim.now offset self.new) }

@@ -18,9 +18,9 @@ use std::alloc::Global;
 /// How many activations later than it was asked to a share may begin at most.
 const LATER: u32 = 64;
 
-/// Runs a share of the activations that a code creates over an input: from about a number on, in control order, apart from those before. It
+/// Runs a share of the activations that a code creates over an input: from about `from` on, in control order, apart from those before. It
 /// begins where they need nothing of those before, a few activations later if need be. It ends where one of them reads what was written
-/// before the share's first one, or where so many activations in all were passed as the second number says, or where no more come.
+/// before the share's first one, or where `to` activations in all were passed, or where no more come.
 /// What it answers tells from which one on they ran, and how they ended.
 pub fn run_share(
     alloc: Global,
@@ -58,7 +58,7 @@ pub fn run_share(
     Ok(apart)
 }
 
-/// Runs stretch by stretch, until so many activations were passed, or as far as it goes.
+/// Runs stretch by stretch, until `to` activations were passed, or as far as it goes.
 fn run_stretches(
     walk: &mut Walk<'_>,
     apart: &mut Apart,

@@ -14,8 +14,8 @@ use os_io::{List, Memory};
 use std::alloc::Global;
 use std::mem;
 
-/// How many activations the control program creates before they are passed.
-pub(crate) const STRETCH: u32 = 256;
+/// How many activations the control program creates at a time, at most, before they run or are passed.
+pub const STRETCH: u32 = 256;
 
 /// The control program where it has come, the stretch of activations that it created last, and the positions behind those that were passed.
 #[derive(Drop)]
@@ -26,7 +26,7 @@ pub(crate) struct Walk<'c> {
 }
 
 impl<'c> Walk<'c> {
-    /// A walk before the first activation, over an input of so many bytes.
+    /// A walk before the first activation, over an input of `input_len` bytes.
     pub(crate) fn new(
         alloc: Global,
         code: &'c Code,
@@ -45,7 +45,7 @@ impl<'c> Walk<'c> {
         })
     }
 
-    /// Has the control program create the next activations, at most so many, in the places of the last ones. It answers whether it has ended.
+    /// Has the control program create the next activations, at most `at_most`, in the places of the last ones. It answers whether it has ended.
     pub(crate) fn next_stretch(&mut self, alloc: Global, at_most: u32) -> Result<bool, Memory>
         requires { 1 ≤ at_most }
         ensures given { IfOk result (HasGiven at_most self.old.control self.new.control self.new.activations) }
@@ -70,7 +70,7 @@ impl<'c> Walk<'c> {
         Ok(ended)
     }
 
-    /// Passes activations until so many were passed, or the control program has ended. After `Memory` the walk is to be given up.
+    /// Passes activations until `count` were passed, or the control program has ended. After `Memory` the walk is to be given up.
     pub(crate) fn pass_to(&mut self, alloc: Global, count: u32) -> Result<(), Memory>
         requires { HasWalked self.old }
         ensures walked { OnOk result (HasWalked self.new) }

@@ -74,7 +74,7 @@ static CASES: [Case; 4] = [
 
 static INPUT: [u8; 5] = [1, 2, 3, 4, 5];
 
-/// A run in epochs of at most so many activations, by so many workers, with so many turns for `main`.
+/// A run in epochs of at most `activations` activations, by `workers` workers, with `control` turns for `main`.
 fn run<R: Threads + Sync>(
     rt: &R,
     alloc: Global,
@@ -97,7 +97,7 @@ fn run<R: Threads + Sync>(
     run_epochs_of(rt, alloc, code, &INPUT, budgets, workers, &NoGate, size).ok()
 }
 
-/// A run by so many workers, in control order where that may be.
+/// A run by `workers` workers, in control order where that may be.
 fn run_in_order<R: Threads + Sync>(
     rt: &R,
     alloc: Global,
@@ -112,7 +112,7 @@ fn run_in_order<R: Threads + Sync>(
     run_epochs(rt, alloc, code, &INPUT, budgets, workers, &NoGate).ok()
 }
 
-/// Whether a run in epochs of at most so many activations comes to the same as another one.
+/// Whether a run in epochs of at most `activations` activations comes to the same as another one.
 fn is_same<R: Threads + Sync>(
     rt: &R,
     alloc: Global,
@@ -123,7 +123,7 @@ fn is_same<R: Threads + Sync>(
     whole: &RunResult,
 ) -> bool
     requires some { 1 ≤ activations }
-    requires workers { (1 ≤ workers) × (workers ≤ 64) }
+    requires workers { (1 ≤ workers) × (workers ≤ workers_limit) }
     requires budget { control ≤ 1000000 }
 {
     match run(rt, alloc, code, control, activations, workers) {
@@ -141,7 +141,7 @@ fn is_same_in_order<R: Threads + Sync>(
     workers: u32,
     whole: &RunResult,
 ) -> bool
-    requires workers { (1 ≤ workers) × (workers ≤ 64) }
+    requires workers { (1 ≤ workers) × (workers ≤ workers_limit) }
     requires budget { control ≤ 1000000 }
 {
     match run_in_order(rt, alloc, code, control, workers) {
@@ -167,7 +167,7 @@ fn are_all_same<R: Threads + Sync>(
         && is_same_in_order(rt, alloc, code, control, 3, whole)
 }
 
-/// Whether each way of a run comes to what one epoch comes to, in which `main` ends so and creates so many activations.
+/// Whether each way of a run comes to what one epoch comes to, in which `main` ends with `end` and creates `count` activations.
 fn ends_so<R: Threads + Sync>(
     rt: &R,
     alloc: Global,

@@ -22,7 +22,7 @@ type Example = (&'static str, usize, usize);
 /// A coder and its decoder, each with how many activations it creates, all of which are done.
 type Pair = (&'static str, usize, &'static str, usize);
 
-/// So many bytes, which rise ever faster, modulo 251.
+/// `count` bytes, which rise ever faster, modulo 251.
 fn bytes(rt: &impl Abort, alloc: Global, count: u32) -> Vec<u8> {
     let mut bytes = Vec::new(alloc);
     for at in 0..count {
@@ -55,13 +55,13 @@ fn done_of(run: &RunResult) -> usize {
     count
 }
 
-/// Asks that a run created so many activations, of which so many are done.
+/// Asks that a run created `created` activations, of which `done` are done.
 fn has_created(rt: &impl Abort, run: &RunResult, created: usize, done: usize, text: &str) {
     let right = run.ends.ends.len() == created && done_of(run) == done;
     assert!(rt; right, "{text}");
 }
 
-/// Asks that a program creates so many activations, of which so many are done, and that it comes to the same in each way as in one epoch;
+/// Asks that a program creates `created` activations, of which `done` are done, and that it comes to the same in each way as in one epoch;
 /// gives what it writes.
 fn example<R: Threads + Sync + Abort>(
     rt: &R,

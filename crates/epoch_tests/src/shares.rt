@@ -158,7 +158,7 @@ impl Gate for Calls {
     }
 }
 
-/// A run by so many workers.
+/// A run by `workers` workers.
 fn run<R: Threads + Sync, G: Gate>(
     rt: &R,
     alloc: Global,

@@ -22,7 +22,7 @@ pub(crate) struct Job<'a> {
     pub turns: u64,
 }
 
-/// Epochs of at most so many activations, whatever their windows.
+/// Epochs of at most `activations` activations, whatever their windows.
 fn of_activations(activations: u32) -> EpochSize
     requires { 1 ≤ activations }
     ensures { 1 ≤ result.activations }
@@ -35,7 +35,7 @@ fn of_activations(activations: u32) -> EpochSize
     }
 }
 
-/// Epochs of one activation, and of up to so many while as many wait.
+/// Epochs of one activation, and of up to `growth` while as many wait.
 fn growing(growth: u32) -> EpochSize
     ensures { 1 ≤ result.activations }
 {
@@ -47,7 +47,7 @@ fn growing(growth: u32) -> EpochSize
     }
 }
 
-/// Epochs that end with the activation whose windows make so many elements.
+/// Epochs that end with the activation whose windows bring the elements of all to `elements`.
 fn of_elements(elements: u64) -> EpochSize
     ensures { 1 ≤ result.activations }
 {
@@ -59,7 +59,7 @@ fn of_elements(elements: u64) -> EpochSize
     }
 }
 
-/// A run in epochs of a size, by so many workers.
+/// A run in epochs of a size, by `workers` workers.
 fn run<R: Threads + Sync + Abort>(
     rt: &R,
     alloc: Global,
@@ -84,7 +84,7 @@ fn run<R: Threads + Sync + Abort>(
     run_epochs_of(rt, alloc, code, input, budgets, workers, &NoGate, size).expect(rt, text)
 }
 
-/// A run by so many workers, in control order where that may be.
+/// A run by `workers` workers, in control order where that may be.
 fn run_in_order<R: Threads + Sync + Abort>(
     rt: &R,
     alloc: Global,

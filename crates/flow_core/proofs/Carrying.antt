@@ -56,7 +56,7 @@ other_stays plan number p root outputs old new is carries c outside = carries.ot
     free m l h covers (inl lt) = let n : m ≡ number = omega arith in let w = covered plan m c p (ap (slice_get plan.pieces) n ∙ is) covers in absurd (omega (arith, w.0))
     free m l h covers (inr ge) = let n : m ≡ number = omega arith in let w = covered plan m c p (ap (slice_get plan.pieces) n ∙ is) covers in absurd (omega (arith, w.1))
 
--- the frame to which a piece goes misses so many elements less
+-- the frame to which a piece goes misses as many elements less as the piece has
 pub missing-lowered : (plan : Plan) (number : ℕ) (p : Piece) (root : Option ℕ) (outputs : List ℤ) (old new : List (Option Elem)) → IsSound plan → slice_get plan.pieces number ≡ Some p → HasOutputs (p.first + p.count) root outputs → AreEmpty plan number (number + 1) old → Carries plan number (number + 1) root outputs old new → missing_of plan new p.to + p.count ≡ missing_of plan old p.to
 missing-lowered plan number p root outputs old new sound is fits empty carries =
     let s : IsSoundPiece plan p = sound.pieces_are_sound number p is in

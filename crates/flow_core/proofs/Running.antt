@@ -16,7 +16,7 @@ use Rattle.flow_core_laws.specs.declared.task_end.TaskEnd.{TaskEnd}
 use Rattle.flow_core.specs.declared.waits.Waits.{Waits}
 use Rattle.flow_core_laws.specs.declared.outcome.Outcome.{Outcome}
 use Rattle.flow_core_laws.specs.Outcome.{outcome_at, State, ends_of}
-use Rattle.flow_core_laws.specs.Element.{Source, initial, fed, nobody, written, output_at}
+use Rattle.flow_core_laws.specs.Element.{Source, initial, fed, nobody, element_written, output_at}
 use Rattle.flow_core_laws.specs.Poisoning.{poisoning}
 use Rattle.flow_core_laws.specs.Round.{gathered}
 use Rattle.flow_core_laws.specs.Plans.{frame_at, number_at, cells_of, held_at, cell_source, piece_at, plan_reads, plan_element, plan_meaning, sink_elements}
@@ -137,7 +137,7 @@ reaches plan outcome board turn sound run over = record { passes = λ s extends 
 
     shown_too : (s : State) → Extends s m → ((b : ℕ) (o : Outcome) → outcome_at s b ≡ Some o → is_some (end_at board.ends.items b) ≡ true) → (source : Source) (v : Elem) → plan_element plan s source ≡ Some v → shown (number_at plan) board.ends.items m source ≡ Some v
     shown_too s extends earlier (initial w) v h = h
-    shown_too s extends earlier (fed b k) v h = option_and_then_some (λ (o : Outcome). written (number_at plan b) o k) (outcome_at s b) v h (λ o is at. ap (λ (t : Bool). cond t (output_at (number_at plan) m b k) None) (earlier b o is) ∙ element_kept (number_at plan) s m extends.kept (fed b k) v h)
+    shown_too s extends earlier (fed b k) v h = option_and_then_some (λ (o : Outcome). element_written (number_at plan b) o k) (outcome_at s b) v h (λ o is at. ap (λ (t : Bool). cond t (output_at (number_at plan) m b k) None) (earlier b o is) ∙ element_kept (number_at plan) s m extends.kept (fed b k) v h)
     shown_too s extends earlier nobody v h = absurd (cc)
 
     by_cells : (s : State) → Extends s m → ((b : ℕ) (o : Outcome) → outcome_at s b ≡ Some o → is_some (end_at board.ends.items b) ≡ true) → (a : ℕ) (vs : List Elem) → a < length plan.frames → gathered (map (λ c. plan_element plan s (cell_source plan c)) (cells_of plan a)) ≡ Some vs → is_some (end_at board.ends.items a) ≡ true
@@ -190,7 +190,7 @@ sink_meant plan m cells ends waits sound counted shows all =
     inside c u = let exist = sound.cells_exist n (omega arith) in let len = counted.cells_of_plan in omega arith
 
     shown_fed : (g k : ℕ) (e : Option TaskEnd) → end_at ends g ≡ e → cond (is_some (end_at ends g)) (output_at (number_at plan) m g k) None ≡ output_at (number_at plan) m g k
-    shown_fed g k None is = ap (λ (e : Option TaskEnd). cond (is_some e) (output_at (number_at plan) m g k) None) is ∙ sym (ap (option_and_then (λ (o : Outcome). written (number_at plan g) o k)) (outcome_or_none m ends all g is))
+    shown_fed g k None is = ap (λ (e : Option TaskEnd). cond (is_some e) (output_at (number_at plan) m g k) None) is ∙ sym (ap (option_and_then (λ (o : Outcome). element_written (number_at plan g) o k)) (outcome_or_none m ends all g is))
     shown_fed g k (Some e) is = ap (λ (e : Option TaskEnd). cond (is_some e) (output_at (number_at plan) m g k) None) is
 
     shown_all : (source : Source) → shown (number_at plan) ends m source ≡ plan_element plan m source

@@ -15,13 +15,13 @@ use Rattle.flow_core_laws.specs.declared.task_end.TaskEnd.TheVariants.{Done, Tra
 use Rattle.flow_core.specs.declared.waits.Waits.{Waits}
 use Rattle.flow_core_laws.specs.declared.outcome.Outcome.{Outcome}
 use Rattle.flow_core_laws.specs.Outcome.{outcome_at, State, root_of}
-use Rattle.flow_core_laws.specs.Element.{Source, initial, fed, nobody, element, output_element, written, output_at}
+use Rattle.flow_core_laws.specs.Element.{Source, initial, fed, nobody, element, output_element, element_written, output_at}
 use Rattle.flow_core_laws.specs.Round.{gathered}
 use Rattle.flow_core_laws.specs.Poisoning.{poisoning, values_of}
 use Rattle.flow_core_laws.specs.Plans.{frame_at, number_at, cells_of, held_at, cell_source, plan_reads, plan_element, plan_meaning}
 use Rattle.flow_core_laws.specs.IsSound.{Covers, IsSound}
 use Rattle.flow_core.specs.Counted.{IsCounted, Carries, AreEmpty}
-use Rattle.flow_core.specs.Shows.{end_at, shown, Shows, Gives, Reads}
+use Rattle.flow_core.specs.Shows.{end_at, shown, Shows, HasOutcome, Reads}
 use Rattle.flow_core.proofs.Carrying.{piece_fits}
 use Rattle.flow_core_laws.proofs.Gathering.{gathered-weaker, all_gathered}
 use Rattle.flow_core_laws.proofs.Rounds.{outcome_at-meaning}
@@ -46,15 +46,15 @@ end_at-set ends f g e lt (inl same) = inl (ap (end_at (set ends f (Some e))) sam
 end_at-set ends f g e lt (inr other) = inr (get_or-set_other ends f g (Some e) None other, other)
 
 -- what a frame with an outcome gives
-output_at-outcome : (numbers : ℕ → ℕ) (m : State) (f k : ℕ) (o : Outcome) → outcome_at m f ≡ Some o → output_at numbers m f k ≡ written (numbers f) o k
-output_at-outcome numbers m f k o is = ap (option_and_then (λ (q : Outcome). written (numbers f) q k)) is
+output_at-outcome : (numbers : ℕ → ℕ) (m : State) (f k : ℕ) (o : Outcome) → outcome_at m f ≡ Some o → output_at numbers m f k ≡ element_written (numbers f) o k
+output_at-outcome numbers m f k o is = ap (option_and_then (λ (q : Outcome). element_written (numbers f) q k)) is
 
 -- it is what stands for its end and its outputs
-written-end : (number k : ℕ) (o : Outcome) (e : TaskEnd) (outputs : List ℤ) → o.end ≡ e → (e ≡ Done → outputs ≡ o.outputs) → written number o k ≡ output_element (root_of number e) outputs k
-written-end number k o Done outputs is same = ap (λ (end : TaskEnd). output_element (root_of number end) o.outputs k) is ∙ sym (ap (λ (xs : List ℤ). output_element None xs k) (same refl))
-written-end number k o (Trapped code line) outputs is same = ap (λ (end : TaskEnd). output_element (root_of number end) o.outputs k) is
-written-end number k o OverBudget outputs is same = ap (λ (end : TaskEnd). output_element (root_of number end) o.outputs k) is
-written-end number k o (Poisoned root) outputs is same = ap (λ (end : TaskEnd). output_element (root_of number end) o.outputs k) is
+element_written-end : (number k : ℕ) (o : Outcome) (e : TaskEnd) (outputs : List ℤ) → o.end ≡ e → (e ≡ Done → outputs ≡ o.outputs) → element_written number o k ≡ output_element (root_of number e) outputs k
+element_written-end number k o Done outputs is same = ap (λ (end : TaskEnd). output_element (root_of number end) o.outputs k) is ∙ sym (ap (λ (xs : List ℤ). output_element None xs k) (same refl))
+element_written-end number k o (Trapped code line) outputs is same = ap (λ (end : TaskEnd). output_element (root_of number end) o.outputs k) is
+element_written-end number k o OverBudget outputs is same = ap (λ (end : TaskEnd). output_element (root_of number end) o.outputs k) is
+element_written-end number k o (Poisoned root) outputs is same = ap (λ (end : TaskEnd). output_element (root_of number end) o.outputs k) is
 
 -- an end without a root is Done
 pub no_root_is_done : (number : ℕ) (e : TaskEnd) → root_of number e ≡ None → e ≡ Done
@@ -84,7 +84,7 @@ not_from plan f c sound lt unfed number low high (p, is, from, to) =
     unfed (p.first + (c - p.at)) (cell_source-covered plan number c p sound is from to ∙ ap (λ (g : ℕ). fed g (p.first + (c - p.at))) (from_frame plan f number p sound lt is low high))
 
 -- a frame that ended shows what its pieces carried
-pub Shows-ended : (plan : Plan) (m : State) (cells new : List (Option Elem)) (ends : List (Option TaskEnd)) (f : ℕ) (e : TaskEnd) (root : Option ℕ) (outputs : List ℤ) → IsSound plan → f < length plan.frames → Shows plan m cells ends → Gives m f e outputs → root ≡ root_of (number_at plan f) e → length new ≡ length cells → Carries plan (frame_at plan f).piece ((frame_at plan f).piece + (frame_at plan f).pieces) root outputs cells new → Shows plan m new (set ends f (Some e))
+pub Shows-ended : (plan : Plan) (m : State) (cells new : List (Option Elem)) (ends : List (Option TaskEnd)) (f : ℕ) (e : TaskEnd) (root : Option ℕ) (outputs : List ℤ) → IsSound plan → f < length plan.frames → Shows plan m cells ends → HasOutcome m f e outputs → root ≡ root_of (number_at plan f) e → length new ≡ length cells → Carries plan (frame_at plan f).piece ((frame_at plan f).piece + (frame_at plan f).pieces) root outputs cells new → Shows plan m new (set ends f (Some e))
 Shows-ended plan m cells new ends f e root outputs sound f_lt shows (o, is, o_end, o_outputs) root_is len carries = record {
   ends_of_plan = length-set ends f (Some e) ∙ shows.ends_of_plan;
   ends_are_meant = ends_set m ends f e o lt is o_end shows.ends_are_meant;
@@ -102,7 +102,7 @@ Shows-ended plan m cells new ends f e root outputs sound f_lt shows (o, is, o_en
         let (number, p, p_is, low, high, from, place) = fed-covered plan c f k is_fed in
         let range = (sound.pieces_stand_together f number p (omega arith) p_is).0 from in
         let there : held_at new c ≡ output_element (root_of (number_at plan f) e) outputs k = carries.filled number c p range.0 range.1 p_is low high ∙ ap (output_element root outputs) place ∙ ap (λ (r : Option ℕ). output_element r outputs k) root_is in
-        there ∙ sym (written-end (number_at plan f) k o e outputs o_end o_outputs) ∙ sym (output_at-outcome (number_at plan) m f k o is) ∙ sym (shown-same (number_at plan) ends m f k e lt)
+        there ∙ sym (element_written-end (number_at plan f) k o e outputs o_end o_outputs) ∙ sym (output_at-outcome (number_at plan) m f k o is) ∙ sym (shown-same (number_at plan) ends m f k e lt)
 
     at_fed : (c g k : ℕ) → c < length new → cell_source plan c ≡ fed g k → (g ≡ f) ⊎ (g ≢ f) → held_at new c ≡ shown (number_at plan) (set ends f (Some e)) m (fed g k)
     at_fed c g k h s (inl same) = subst (λ (x : ℕ). cell_source plan c ≡ fed x k → held_at new c ≡ shown (number_at plan) (set ends f (Some e)) m (fed x k)) (sym same) (from_f c k) s

@@ -29,8 +29,8 @@ pub record Shows (plan : Plan) (meaning : State) (cells : List (Option Elem)) (e
   pub cells_are_shown : (c : ℕ) → c < length cells → held_at cells c ≡ shown (number_at plan) ends meaning (cell_source plan c)
 
 -- The meaning gives a frame an end, with these outputs where it is Done.
-abbrev pub Gives : State → ℕ → TaskEnd → List ℤ → Type 0
-Gives meaning frame end outputs = (o : Outcome) × (outcome_at meaning frame ≡ Some o) × (o.end ≡ end) × (end ≡ Done → outputs ≡ o.outputs)
+abbrev pub HasOutcome : State → ℕ → TaskEnd → List ℤ → Type 0
+HasOutcome meaning frame end outputs = (o : Outcome) × (outcome_at meaning frame ≡ Some o) × (o.end ≡ end) × (end ≡ Done → outputs ≡ o.outputs)
 
 -- All inputs of a frame are there in the meaning, and these are the values among them.
 pub record Reads (plan : Plan) (meaning : State) (frame : ℕ) (values : List ℤ) : Type 0 where

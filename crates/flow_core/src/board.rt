@@ -4,7 +4,7 @@ ghost use Rattle.flow_core_laws.specs.IsSound.{IsSound};
 ghost use Rattle.flow_core_laws.specs.Outcome.{State};
 ghost use Rattle.flow_core.specs.Waits.{OpensMore};
 ghost use Rattle.flow_core.specs.Counted.{IsCounted, HasOutputs, Carries, AreEmpty, IsUnfed, Delivers};
-ghost use Rattle.flow_core.specs.Shows.{Shows, Gives, end_at};
+ghost use Rattle.flow_core.specs.Shows.{Shows, HasOutcome, end_at};
 
 use crate::cells::fill;
 use crate::waits::Waits;
@@ -50,12 +50,21 @@ impl Board {
         ensures output { IfOk result (λ e. e.output
             ≡ slice_range self.now.cells.items plan.now.sink.cell (plan.now.sink.cell + plan.now.sink.inputs)) }
     {
-        let first = plan.sink.cell as usize;
-        let output = &self.cells[first..first + plan.sink.inputs as usize];
         Ok(Ends {
             ends: List::from_slice(alloc, self.ends.as_slice())?,
-            output: List::from_slice(alloc, output)?,
+            output: List::from_slice(alloc, self.sink_cells(plan))?,
         })
+    }
+
+    /// The cells of the sink.
+    pub fn sink_cells(&self, plan: &Plan) -> &[Option<Elem>]
+        requires { plan.now.sink.cell + plan.now.sink.inputs ≤ length self.now.cells.items }
+        ensures cells { result.now
+            ≡ slice_range self.now.cells.items plan.now.sink.cell (plan.now.sink.cell + plan.now.sink.inputs) }
+        ensures length { length result.now ≡ plan.now.sink.inputs }
+    {
+        let first = plan.sink.cell as usize;
+        &self.cells[first..first + plan.sink.inputs as usize]
     }
 
     /// Takes the end of a frame, with its outputs where it is `Done`. The cells that the frame feeds get these,
@@ -79,7 +88,7 @@ impl Board {
         ensures opens { OnOk result (OpensMore self.old.waits self.new.waits) }
         ensures shows { OnOk result ((meaning : State)
             → Shows plan.now meaning self.old.cells.items self.old.ends.items
-            → Gives meaning frame end outputs.now
+            → HasOutcome meaning frame end outputs.now
             → Shows plan.now meaning self.new.cells.items self.new.ends.items) }
     {
         self.ends[frame as usize] = Some(end);
@@ -144,7 +153,7 @@ impl Board {
     }
 }
 
-/// No end for each of so many frames.
+/// No end for each of `frames` frames.
 fn no_ends(alloc: Global, frames: usize) -> Result<Vec<Option<TaskEnd>>, Memory>
     ensures { IfOk result (λ ends. ends.items ≡ replicate frames None) }
 {

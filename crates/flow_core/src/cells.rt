@@ -44,8 +44,8 @@ pub fn gather(cells: &[Option<Elem>], into: &mut Vec<i32>) -> Result<Option<u32>
     gather_all(cells, into)
 }
 
-/// Gives a buffer so many places, whatever they hold.
-fn fit(into: &mut Vec<i32>, count: usize) -> Result<(), Memory>
+/// Gives a buffer `count` places, whatever they hold.
+pub fn fit(into: &mut Vec<i32>, count: usize) -> Result<(), Memory>
     ensures { OnOk result (length into.new.items ≡ count) }
 {
     if into.len() == count {

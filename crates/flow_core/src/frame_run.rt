@@ -8,7 +8,7 @@ ghost use Rattle.flow_core_laws.specs.IsSound.{IsSound};
 ghost use Rattle.flow_core_laws.specs.Serves.{Serves};
 ghost use Rattle.flow_core.specs.Waits.{OpensMore};
 ghost use Rattle.flow_core.specs.Counted.{IsCounted};
-ghost use Rattle.flow_core.specs.Shows.{Gives, Reads, Shows, end_at};
+ghost use Rattle.flow_core.specs.Shows.{HasOutcome, Reads, Shows, end_at};
 
 use crate::board::Board;
 use crate::cells::gather;
@@ -98,7 +98,7 @@ pub fn run_frame<B: Bodies>(
     ensures reads { OnOk result (Reads plan.now (plan_meaning plan.now (B.outcome bodies.now)) frame buffers.new.inputs.items) }
     ensures ended { OnOk result ((end : TaskEnd)
         × (board.new.ends.items ≡ slice_set board.old.ends.items frame (Some end))
-        × Gives (plan_meaning plan.now (B.outcome bodies.now)) frame end buffers.new.outputs.items) }
+        × HasOutcome (plan_meaning plan.now (B.outcome bodies.now)) frame end buffers.new.outputs.items) }
     ensures fits_again { OnOk result (B.fits bodies.now scratch.new) }
 {
     let place = plan.frame(frame);

@@ -18,7 +18,7 @@ mod one_thread;
 mod waits;
 
 pub use board::Board;
-pub use cells::gather;
+pub use cells::{fit, gather};
 pub use flow_core_laws::{
     Activation, Bodies, Claim, Control, ControlEnd, Elem, Ends, FramePlan, Outcome, Piece, Plan,
     TaskEnd, laws,

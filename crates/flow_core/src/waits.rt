@@ -39,7 +39,7 @@ impl Waits {
         Ok(())
     }
 
-    /// A frame got so many elements; where it misses none now, it opens.
+    /// A frame got `count` elements; where it misses none now, it opens.
     pub(crate) fn lower(&mut self, frame: u32, count: u32) -> Result<(), Memory>
         requires exists { frame < length self.old.missing.items }
         requires some { 1 ≤ count }

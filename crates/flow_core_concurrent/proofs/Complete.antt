@@ -16,7 +16,7 @@ use Rattle.flow_core_concurrent.specs.Counted.{one, is_run_of, is_past, counted_
 use Rattle.flow_core_concurrent.proofs.Words.{one_is_false, full_waits}
 use Rattle.flow_core_laws.specs.declared.outcome.Outcome.{Outcome}
 use Rattle.flow_core_laws.specs.declared.plan.Plan.{Plan}
-use Rattle.flow_core_laws.specs.Element.{Source, initial, fed, nobody, output_at, written}
+use Rattle.flow_core_laws.specs.Element.{Source, initial, fed, nobody, output_at, element_written}
 use Rattle.flow_core_laws.specs.Plans.{plan_element, frame_at, held_at, piece_at, piece_source, cell_source, plan_reads, plan_meaning, number_at}
 use Rattle.flow_core_laws.specs.IsSound.{IsSound}
 use Rattle.flow_core_laws.proofs.Sources.{fed-covered, piece_at-covered}
@@ -78,7 +78,7 @@ output_has_outcome : (plan : Plan) (t : State) (f k : ℕ) (x : Elem) → output
 output_has_outcome plan t f k x h = by (outcome_at t f) refl
   where
     by : (p : Option Outcome) → outcome_at t f ≡ p → (o : Outcome) × (outcome_at t f ≡ Some o)
-    by None e = let z : ◌≡◌ {A = Option Elem} None (Some x) = sym (ap (option_and_then (λ (o : Outcome). written (number_at plan f) o k)) e) ∙ h in absurd (cc)
+    by None e = let z : ◌≡◌ {A = Option Elem} None (Some x) = sym (ap (option_and_then (λ (o : Outcome). element_written (number_at plan f) o k)) e) ∙ h in absurd (cc)
     by (Some o) e = (o, e)
 
 -- Where the frames with an outcome in a state have ended, the elements that are there in it were initial at

@@ -90,7 +90,7 @@ in_all-lengths n (v ∷ vs) each =
     let rest = in_all-lengths n vs (λ seat u there. each (suc seat) u there) in
     omega (arith, a, b, all, rest)
 
--- where no frame stands in them more than once, they have no more than so many below a bound
+-- where no frame stands in them more than once, they have no more than `n` below `n`
 in_all-few : (n : ℕ) (seats : List View) → ((f : ℕ) → sum_by (λ (v : View). times f v.ran) seats ≤ 1) → in_all n seats ≤ n
 in_all-few zero seats once = let none = in_all-zero seats in omega (arith, none)
 in_all-few (suc n) seats once =

@@ -17,7 +17,7 @@ use Rattle.flow_core_laws.specs.declared.outcome.Outcome.{Outcome}
 use Rattle.flow_core_laws.specs.declared.plan.Plan.{Plan}
 use Rattle.flow_core_laws.specs.declared.task_end.TaskEnd.TheVariants.{Done, Trapped, OverBudget, Poisoned}
 use Rattle.flow_core_laws.specs.Plans.{plan_element, frame_at, held_at, cell_source, piece_at, number_at}
-use Rattle.flow_core_laws.specs.Element.{fed, output_at, written, output_element}
+use Rattle.flow_core_laws.specs.Element.{fed, output_at, element_written, output_element}
 use Rattle.flow_core_laws.specs.IsSound.{IsSound, IsSoundPiece}
 use Rattle.flow_core_laws.proofs.Sources.{piece_at-covered, cell_source-covered}
 use Rattle.flow_core_laws.specs.declared.elem.Elem.{Elem}
@@ -41,16 +41,16 @@ piece_within plan q p sound h =
     omega (arith, a, b)
 
 -- the output element of a frame at a place below the number of its outputs
-output_within : (known : Known) (f place : ℕ) (o : Outcome) → (o.end ≡ Done → place < length o.outputs) → (elem : Elem) × (written (number_at known.plan f) o place ≡ Some elem)
+output_within : (known : Known) (f place : ℕ) (o : Outcome) → (o.end ≡ Done → place < length o.outputs) → (elem : Elem) × (element_written (number_at known.plan f) o place ≡ Some elem)
 output_within known f place o within = by_end o.end refl
   where
     number : ℕ
     number = number_at known.plan f
 
-    at_root : (root : ℕ) → root_of number o.end ≡ Some root → (elem : Elem) × (written number o place ≡ Some elem)
+    at_root : (root : ℕ) → root_of number o.end ≡ Some root → (elem : Elem) × (element_written number o place ≡ Some elem)
     at_root root e = (Poison root, ap (λ (r : Option ℕ). output_element r o.outputs place) e)
 
-    by_end : (end : TaskEnd) → o.end ≡ end → (elem : Elem) × (written number o place ≡ Some elem)
+    by_end : (end : TaskEnd) → o.end ≡ end → (elem : Elem) × (element_written number o place ≡ Some elem)
     by_end Done e =
         let v : ℤ = get_or o.outputs place (pos 0) in
         (Value v, ap (λ (end : TaskEnd). output_element (root_of number end) o.outputs place) e ∙ ap (option_map Value) (slice_get-get_or o.outputs place (pos 0) (within e)))
@@ -68,7 +68,7 @@ has_output known r p k fit exists ended stands lt = by (outcome_at known.meaning
         let s : IsSoundPiece known.plan p = fit.plan_is_sound.pieces_are_sound r.piece p stands.has_number in
         let t : p.first + p.count ≤ (frame_at known.plan r.frame).outputs = subst (λ f. p.first + p.count ≤ (frame_at known.plan f).outputs) stands.is_its_own s.takes_outputs in
         let (elem, is) = output_within known r.frame (p.first + k) o (λ done. let n = fit.done_has_outputs r.frame o exists e done in omega (arith, n, t, lt)) in
-        (elem, ap (option_and_then (λ (o : Outcome). written (number_at known.plan r.frame) o (p.first + k))) e ∙ is)
+        (elem, ap (option_and_then (λ (o : Outcome). element_written (number_at known.plan r.frame) o (p.first + k))) e ∙ is)
 
 -- only the next element is stored beside those that were
 stores_more : (r : FrameRun) (from q k : ℕ) → (r.piece ≡ q → k ≢ r.stored) → has_stored from q k (Some (record r { stored = r.stored + 1 })) ≡ has_stored from q k (Some r)

@@ -20,7 +20,7 @@ use Rattle.flow_core_concurrent.specs.Counted.{one, is_run_of, is_past, has_stor
 use Rattle.flow_core_concurrent.proofs.Opening.{count_by-fewer}
 use Rattle.flow_core_laws.specs.declared.outcome.Outcome.{Outcome}
 use Rattle.flow_core_laws.specs.declared.task_end.TaskEnd.{TaskEnd}
-use Rattle.flow_core_laws.specs.Element.{Source, initial, fed, nobody, output_at, written}
+use Rattle.flow_core_laws.specs.Element.{Source, initial, fed, nobody, output_at, element_written}
 use Rattle.flow_core_laws.specs.Plans.{plan_element, frame_at, held_at, cell_source, cells_of, plan_reads, plan_meaning, number_at}
 use Rattle.flow_core_laws.specs.IsSound.{HasCell}
 use Rattle.flow_core_laws.proofs.Elements.{element_kept}
@@ -165,7 +165,7 @@ claimed_element known s c x fit g some h = by (cell_source known.plan c) refl h
         let started : is_started (word_at s.words f) ≡ true = subst (λ k. is_started (word_at s.words k) ≡ true) from (counted_started known s q c p g number (omega (arith, a, b, z, some))) in
         let exists : f < length known.plan.frames = subst (λ k. k < length known.plan.frames) from (fit.plan_is_sound.pieces_are_sound q p number).comes_from_a_frame in
         let same : outcome_at (claimed_outcomes known s) f ≡ outcome_at known.meaning f = outcome_at-claimed known s f exists ∙ ap (λ b. if b then outcome_at known.meaning f else None) started in
-        ap (option_and_then (λ (o : Outcome). written (number_at known.plan f) o k)) same ∙ h
+        ap (option_and_then (λ (o : Outcome). element_written (number_at known.plan f) o k)) same ∙ h
 
 -- A frame that misses nothing has all its inputs, of frames that were claimed.
 module _ (known : Known) (outcome : ℕ → List ℤ → Outcome) (s : CoreState) (f : ℕ) (fit : IsFit known) (is_meant : IsMeant known outcome) (g : IsGood known s) (lt : f < length known.plan.frames) (none : amount (word_at s.words f) ≡ 0) where
@@ -195,7 +195,7 @@ module _ (known : Known) (outcome : ℕ → List ℤ → Outcome) (s : CoreState
   meant_element (fed a k) x h = by (outcome_at (claimed_outcomes known s) a) refl
     where
       by : (o : Option Outcome) → outcome_at (claimed_outcomes known s) a ≡ o → plan_element known.plan known.meaning (fed a k) ≡ Some x
-      by None e = let z : ◌≡◌ {A = Option Elem} None (Some x) = sym (ap (option_and_then (λ (o : Outcome). written (number_at known.plan a) o k)) e) ∙ h in absurd (cc)
+      by None e = let z : ◌≡◌ {A = Option Elem} None (Some x) = sym (ap (option_and_then (λ (o : Outcome). element_written (number_at known.plan a) o k)) e) ∙ h in absurd (cc)
       by (Some o) e = within (cases_lt a (length known.plan.frames))
         where
           within : (a < length known.plan.frames) ⊎ (length known.plan.frames ≤ a) → plan_element known.plan known.meaning (fed a k) ≡ Some x
@@ -203,7 +203,7 @@ module _ (known : Known) (outcome : ℕ → List ℤ → Outcome) (s : CoreState
           within (inl lt) = started (is_started (word_at s.words a)) (sym (outcome_at-claimed known s a lt) ∙ e)
             where
               started : (b : Bool) → (if b then outcome_at known.meaning a else None) ≡ Some o → plan_element known.plan known.meaning (fed a k) ≡ Some x
-              started true there = ap (option_and_then (λ (o : Outcome). written (number_at known.plan a) o k)) (there ∙ sym e) ∙ h
+              started true there = ap (option_and_then (λ (o : Outcome). element_written (number_at known.plan a) o k)) (there ∙ sym e) ∙ h
               started false there = absurd (cc)
 
   -- its outcome in the meaning is what its body gives for them

@@ -68,14 +68,14 @@ end_in Open = None
 end_in Taken = None
 end_in (Ended end) = Some end
 
--- whether a word is that of a frame which waits for just so many elements
+-- whether a word is that of a frame which waits for just `count` elements
 abbrev pub waits_for : ℕ → Word → Bool
 waits_for count (Wait n) = n == count
 waits_for count Open = false
 waits_for count Taken = false
 waits_for count (Ended end) = false
 
--- a word after so many elements came: a frame that waited for just these opens
+-- a word after `count` elements came: a frame that waited for just these opens
 abbrev pub lowered : ℕ → Word → Word
 lowered count (Wait n) = if n == count then Open else Wait (n - count)
 lowered count Open = Open

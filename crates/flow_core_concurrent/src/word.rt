@@ -3,7 +3,7 @@ use flow_core_laws::TaskEnd;
 /// How far a frame is.
 #[derive(Clone, Copy, Debug, PartialEq, Eq)]
 pub enum Word {
-    /// It misses so many elements, at least one.
+    /// It misses this many elements, at least one.
     Wait(u32),
     /// It misses none, and nobody took it.
     Open,

@@ -12,7 +12,7 @@ use Rattle.flow_core_laws.specs.declared.activation.Activation.{Activation}
 use Rattle.flow_core_laws.specs.declared.plan.Plan.{Plan}
 use Rattle.flow_core_laws.specs.declared.outcome.Outcome.{Outcome}
 use Rattle.flow_core_laws.specs.Outcome.{outcome_at, State}
-use Rattle.flow_core_laws.specs.Element.{fed, nobody, written, output_at}
+use Rattle.flow_core_laws.specs.Element.{fed, nobody, element_written, output_at}
 use Rattle.flow_core_laws.specs.Poisoning.{poisoning}
 use Rattle.flow_core_laws.specs.FirstPosition.{is_read_of}
 use Rattle.flow_core_laws.specs.Window.{Window, windows_of, claims_of, producer, window_of, windows, claims_at, is_written_by}
@@ -23,7 +23,7 @@ use Rattle.flow_core_laws.proofs.Sources.{find_passes}
 use Rattle.flow_core_laws.proofs.Rounds.{outcome_at_past, length-meaning}
 use Rattle.flow_core_laws.proofs.Elements.{element_kept}
 use Rattle.flow_core_laws.proofs.Windows.{producer_of, is_window, window_at, written as window_writes}
-use Rattle.flow_core_epochs.specs.Epoch.{number_in, open_in, written_places, read_from, is_readable, ReadNoOutput, Kept, is_at, value_kept, elements_at, carried_over, IsKeptFor, IsCarried, IsOutside, PlacesDiffer, epoch_meaning}
+use Rattle.flow_core_epochs.specs.Epoch.{number_among, open_in, written_places, read_from, is_readable, ReadNoOutput, Kept, is_at, value_kept, elements_at, carried_over, IsKeptFor, IsCarried, IsOutside, PlacesDiffer, epoch_meaning}
 use Rattle.flow_core_epochs.proofs.Members.{Has, of_append, in_left, in_right, of_filter, in_filter, of_flat_map, in_flat_map, of_range, in_range, has_tail, in_map}
 use Rattle.flow_core_epochs.proofs.Prefixes.{producer_more, element_more, prefix_extends}
 use Rattle.flow_core_epochs.proofs.Frames.{numbers_back}
@@ -257,7 +257,7 @@ pub is_outside : (activations new : List Activation) (input : List ℕ) (body : 
 is_outside activations new input body kept frames waits carried = record {
   are_declared = has_all (λ (k : Kept). 2 ≤ k.place.stream) kept (λ k h. (written_at k h).0);
   places_differ = carried.places_differ;
-  written_outside = has_all (λ (k : Kept). (w : Window) × (producer (activations ++ new) k.place.stream k.place.position ≡ Some w) × (number_in frames w.activation ≡ None)) kept outside;
+  written_outside = has_all (λ (k : Kept). (w : Window) × (producer (activations ++ new) k.place.stream k.place.position ≡ Some w) × (number_among frames w.activation ≡ None)) kept outside;
 }
   where
     state : State
@@ -266,17 +266,17 @@ is_outside activations new input body kept frames waits carried = record {
     written_at : (k : Kept) → Has kept k → (2 ≤ k.place.stream) × (stream_element state (stream_source activations input k.place) ≡ Some k.value)
     written_at k h = all_has (λ (k : Kept). (2 ≤ k.place.stream) × (stream_element state (stream_source activations input k.place) ≡ Some k.value)) kept k carried.are_there h
 
-    no_frame : (a : ℕ) (o : Outcome) → outcome_at state a ≡ Some o → (n : Option ℕ) → number_in frames a ≡ n → number_in frames a ≡ None
+    no_frame : (a : ℕ) (o : Outcome) → outcome_at state a ≡ Some o → (n : Option ℕ) → number_among frames a ≡ n → number_among frames a ≡ None
     no_frame a o ended None e = e
     no_frame a o ended (Some f) e = let z = waits f a (numbers_back frames a f e) in absurd (cc)
 
-    outside : (k : Kept) → Has kept k → (w : Window) × (producer (activations ++ new) k.place.stream k.place.position ≡ Some w) × (number_in frames w.activation ≡ None)
+    outside : (k : Kept) → Has kept k → (w : Window) × (producer (activations ++ new) k.place.stream k.place.position ≡ Some w) × (number_among frames w.activation ≡ None)
     outside k h =
         let w = written_at k h in
         let low = w.0 in
         let (v, is, out) = there_produced activations input state k.place k.value (λ z. omega arith) w.1 in
         let (o, ended) = output_outcome own_number state v.activation (v.offset + (k.place.position - v.first)) k.value out in
-        (v, producer_more activations new k.place.stream k.place.position v is, no_frame v.activation o ended (number_in frames v.activation) refl)
+        (v, producer_more activations new k.place.stream k.place.position v is, no_frame v.activation o ended (number_among frames v.activation) refl)
 
 module _ (before new : List Activation) (input : List ℕ) (body : ℕ → List ℤ → Outcome) (readers frames : List ℕ) (kept : List Kept) (plan : Plan) (places : List Place) (epoch : HasEpoch before new input body readers frames kept plan places) where
   abbrev acts : List Activation
@@ -320,11 +320,11 @@ module _ (before new : List Activation) (input : List ℕ) (body : ℕ → List 
       each a w frame at reads (inr ge) = let c = read_from_cursor before was_open stream in let d = later_reads before new stream a w ge at reads in omega arith
 
   -- what is no frame has the outcome that it had
-  outcome_before : (a : ℕ) → number_in frames a ≡ None → outcome_at whole a ≡ outcome_at earlier a
+  outcome_before : (a : ℕ) → number_among frames a ≡ None → outcome_at whole a ≡ outcome_at earlier a
   outcome_before a n = sym (over_is_whole before new input body readers frames kept plan places epoch a) ∙ over_other before new input body readers frames kept plan places a n
 
   -- a place that a frame wrote leaves, where it is of the output or may be read
-  frame_leaves : (p : Place) (w : Window) (f : ℕ) → producer acts p.stream p.position ≡ Some w → number_in frames w.activation ≡ Some f → (p.stream == 1 || nat_le (read_from acts readers p.stream) p.position) ≡ true → Has places p
+  frame_leaves : (p : Place) (w : Window) (f : ℕ) → producer acts p.stream p.position ≡ Some w → number_among frames w.activation ≡ Some f → (p.stream == 1 || nat_le (read_from acts readers p.stream) p.position) ≡ true → Has places p
   frame_leaves p w f is n test =
       subst (λ (ps : List Place). Has ps p) (sym epoch.stands.places_leave) (in_filter (λ (p : Place). p.stream == 1 || nat_le (read_from acts readers p.stream) p.position) (flat_map (written_places acts) frames) p (in_flat_map (written_places acts) frames w.activation p (f, numbers_back frames w.activation f n) (wrote acts p w is)) test)
 
@@ -351,9 +351,9 @@ module _ (before new : List Activation) (input : List ℕ) (body : ℕ → List 
   none_lost : IsCarried before input earlier kept → (p : Place) → 2 ≤ p.stream → read_from acts left p.stream ≤ p.position → (v : Elem) × (element_now p ≡ Some v) → IsSome (value_kept (carried_over acts left kept places values) p)
   none_lost carried p declared behind (v, now) =
       let (w, is, out) = there_produced acts input whole p v (λ z. omega arith) now in
-      by_number w is out (number_in frames w.activation) refl
+      by_number w is out (number_among frames w.activation) refl
     where
-      by_number : (w : Window) → producer acts p.stream p.position ≡ Some w → output_at own_number whole w.activation (w.offset + (p.position - w.first)) ≡ Some v → (n : Option ℕ) → number_in frames w.activation ≡ n → IsSome (value_kept (carried_over acts left kept places values) p)
+      by_number : (w : Window) → producer acts p.stream p.position ≡ Some w → output_at own_number whole w.activation (w.offset + (p.position - w.first)) ≡ Some v → (n : Option ℕ) → number_among frames w.activation ≡ n → IsSome (value_kept (carried_over acts left kept places values) p)
       by_number w is out (Some f) n =
           let l = read_from_left p.stream in
           let b : nat_le (read_from acts readers p.stream) p.position ≡ true = grind (arith, nat_tests) in
@@ -364,7 +364,7 @@ module _ (before new : List Activation) (input : List ℕ) (body : ℕ → List 
           or_true true y e = refl
           or_true false y e = e
       by_number w is out None n =
-          let out_before : output_at own_number earlier w.activation (w.offset + (p.position - w.first)) ≡ Some v = ap (option_and_then (λ (q : Outcome). written w.activation q (w.offset + (p.position - w.first)))) (sym (outcome_before w.activation n)) ∙ out in
+          let out_before : output_at own_number earlier w.activation (w.offset + (p.position - w.first)) ≡ Some v = ap (option_and_then (λ (q : Outcome). element_written w.activation q (w.offset + (p.position - w.first)))) (sym (outcome_before w.activation n)) ∙ out in
           let (o, ended) = output_outcome own_number earlier w.activation (w.offset + (p.position - w.first)) v out_before in
           let lt = outcome_exists before input body w.activation o ended in
           let was : stream_element earlier (stream_source before input p) ≡ Some v = ap (stream_element earlier) (produced_by before input p w (λ z. omega arith) (producer_less before new p.stream p.position w is lt)) ∙ out_before in
@@ -433,19 +433,19 @@ module _ (before new : List Activation) (input : List ℕ) (body : ℕ → List 
       was_not w is e None h = ap (stream_element earlier) (produced_by_nobody before input p other h)
       was_not w is e (Some v) h =
           let one : v ≡ w = same_Some v w (sym (producer_more before new p.stream p.position v h) ∙ is) in
-          ap (stream_element earlier) (produced_by before input p w other (h ∙ ap Some one)) ∙ ap (option_and_then (λ (q : Outcome). written w.activation q (w.offset + (p.position - w.first)))) e
+          ap (stream_element earlier) (produced_by before input p w other (h ∙ ap Some one)) ∙ ap (option_and_then (λ (q : Outcome). element_written w.activation q (w.offset + (p.position - w.first)))) e
 
-      by_outcome : (w : Window) → producer acts p.stream p.position ≡ Some w → number_in frames w.activation ≡ None → (o : Option Outcome) → outcome_at earlier w.activation ≡ o → stream_element whole (stream_source acts input p) ≡ stream_element earlier (stream_source before input p)
+      by_outcome : (w : Window) → producer acts p.stream p.position ≡ Some w → number_among frames w.activation ≡ None → (o : Option Outcome) → outcome_at earlier w.activation ≡ o → stream_element whole (stream_source acts input p) ≡ stream_element earlier (stream_source before input p)
       by_outcome w is n None e =
           ap (stream_element whole) (produced_by acts input p w other is)
-          ∙ ap (option_and_then (λ (q : Outcome). written w.activation q (w.offset + (p.position - w.first)))) (outcome_before w.activation n ∙ e)
+          ∙ ap (option_and_then (λ (q : Outcome). element_written w.activation q (w.offset + (p.position - w.first)))) (outcome_before w.activation n ∙ e)
           ∙ sym (was_not w is e (producer before p.stream p.position) refl)
       by_outcome w is n (Some o) e =
           ap (stream_element whole) (produced_by acts input p w other is)
-          ∙ ap (option_and_then (λ (q : Outcome). written w.activation q (w.offset + (p.position - w.first)))) (outcome_before w.activation n)
+          ∙ ap (option_and_then (λ (q : Outcome). element_written w.activation q (w.offset + (p.position - w.first)))) (outcome_before w.activation n)
           ∙ sym (ap (stream_element earlier) (produced_by before input p w other (producer_less before new p.stream p.position w is (outcome_exists before input body w.activation o e))))
 
-      by_number : (w : Window) → producer acts p.stream p.position ≡ Some w → (n : Option ℕ) → number_in frames w.activation ≡ n → stream_element whole (stream_source acts input p) ≡ stream_element earlier (stream_source before input p)
+      by_number : (w : Window) → producer acts p.stream p.position ≡ Some w → (n : Option ℕ) → number_among frames w.activation ≡ n → stream_element whole (stream_source acts input p) ≡ stream_element earlier (stream_source before input p)
       by_number w is (Some f) n =
           let (i, at) = frame_leaves p w f is n (ap (λ (b : Bool). b || nat_le (read_from acts readers p.stream) p.position) (eq-eqb p.stream 1 one)) in
           absurd (stays (i, slice_get_within places i p at, get_or_from_slice_get places i p p at))
@@ -453,4 +453,4 @@ module _ (before new : List Activation) (input : List ℕ) (body : ℕ → List 
 
       by_producer : (o : Option Window) → producer acts p.stream p.position ≡ o → stream_element whole (stream_source acts input p) ≡ stream_element earlier (stream_source before input p)
       by_producer None e = ap (stream_element whole) (produced_by_nobody acts input p other e) ∙ sym (ap (stream_element earlier) (produced_by_nobody before input p other (was_none e (producer before p.stream p.position) refl)))
-      by_producer (Some w) e = by_number w e (number_in frames w.activation) refl
+      by_producer (Some w) e = by_number w e (number_among frames w.activation) refl

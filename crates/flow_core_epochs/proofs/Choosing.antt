@@ -19,7 +19,7 @@ use Rattle.flow_core_laws.specs.Poisoning.{poisoning}
 use Rattle.flow_core_laws.specs.Streams.{stream_source, stream_reads, stream_meaning, stream_element, own_number}
 use Rattle.flow_core_laws.proofs.Gathering.{gathered-cons}
 use Rattle.flow_core_laws.proofs.Rounds.{Extends}
-use Rattle.flow_core_epochs.specs.Epoch.{number_in, open_in, AreChosen, LeaveOutWaiting, CannotCome, unwritten, left_out}
+use Rattle.flow_core_epochs.specs.Epoch.{number_among, open_in, AreChosen, LeaveOutWaiting, CannotCome, unwritten, left_out}
 use Rattle.flow_core_epochs.proofs.Holding.{holds_in_meaning}
 use Rattle.flow_core_epochs.proofs.Members.{Has, in_map}
 use Rattle.flow_core_epochs.proofs.Frames.{ascending_numbered, open_each, open_ascend, open_all}
@@ -59,7 +59,7 @@ module _ (before new : List Activation) (input : List ℕ) (body : ℕ → List 
 
   -- what is left out
   abbrev IsLeft : ℕ → Type 0
-  IsLeft a = (outcome_at earlier a ≡ None) × (number_in frames a ≡ None)
+  IsLeft a = (outcome_at earlier a ≡ None) × (number_among frames a ≡ None)
 
   -- an element that can't come isn't there
   comes_not : (s : State) → Extends s whole → ((a : ℕ) (o : Outcome) → outcome_at s a ≡ Some o → IsLeft a → ⊥) → (source : Source) → CannotCome (ends_of earlier) frames source → (v : Elem) → stream_element s source ≡ Some v → ⊥
@@ -84,7 +84,7 @@ module _ (before new : List Activation) (input : List ℕ) (body : ℕ → List 
     others_get_none = λ a lt none out. by_outcome a none out (outcome_at whole a) refl;
   }
     where
-      by_outcome : (a : ℕ) → outcome_at earlier a ≡ None → number_in frames a ≡ None → (o : Option Outcome) → outcome_at whole a ≡ o → outcome_at whole a ≡ None
+      by_outcome : (a : ℕ) → outcome_at earlier a ≡ None → number_among frames a ≡ None → (o : Option Outcome) → outcome_at whole a ≡ o → outcome_at whole a ≡ None
       by_outcome a none out None e = e
       by_outcome a none out (Some o) e = absurd (left_gets_none leave a o e (none, out))
 

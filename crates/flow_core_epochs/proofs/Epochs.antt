@@ -13,7 +13,7 @@ use Rattle.flow_core_laws.specs.declared.plan.Plan.{Plan}
 use Rattle.flow_core_laws.specs.declared.outcome.Outcome.{Outcome}
 use Rattle.flow_core_laws.specs.Outcome.{outcome_at, State}
 use Rattle.flow_core_laws.specs.declared.elem.Elem.TheVariants.{Value}
-use Rattle.flow_core_laws.specs.Element.{Source, initial, fed, nobody, written, output_at}
+use Rattle.flow_core_laws.specs.Element.{Source, initial, fed, nobody, element_written, output_at}
 use Rattle.flow_core_laws.specs.Poisoning.{poisoning}
 use Rattle.flow_core_laws.specs.Place.{Place, input_places}
 use Rattle.flow_core_laws.specs.Streams.{input_source, produced_source, stream_source, stream_reads, stream_meaning, stream_element, own_number}
@@ -22,7 +22,7 @@ use Rattle.flow_core_laws.specs.Round.{gathered, inputs_in}
 use Rattle.flow_core_laws.proofs.Sources.{find_passes}
 use Rattle.flow_core_laws.proofs.Rounds.{Extends, gathered-extends, outcome_at-meaning, length-meaning}
 use Rattle.flow_core_laws.proofs.Elements.{element_kept}
-use Rattle.flow_core_epochs.specs.Epoch.{open_in, number_in, put_over, Kept, is_at, value_kept, among, epoch_source, IsKeptFor, StandsForEpoch}
+use Rattle.flow_core_epochs.specs.Epoch.{open_in, number_among, put_over, Kept, is_at, value_kept, among, epoch_source, IsKeptFor, StandsForEpoch}
 use Rattle.flow_core_epochs.proofs.Holding.{gathered_both, holds_in_meaning}
 use Rattle.flow_core_epochs.proofs.Prefixes.{prefix_extends}
 use Rattle.flow_core_epochs.proofs.Frames.{numbers_back}
@@ -33,15 +33,15 @@ pub output_carries : (from to : ℕ → ℕ) (s t : State) (a b place : ℕ) (v 
 output_carries from to s t a b place v same carries h = by_outcome (outcome_at s a) refl
   where
     by_outcome : (o : Option Outcome) → outcome_at s a ≡ o → output_at to t b place ≡ Some v
-    by_outcome None e = let z : output_at from s a place ≡ None = ap (option_and_then (λ (q : Outcome). written (from a) q place)) e in absurd (cc)
-    by_outcome (Some o) e = ap (option_and_then (λ (q : Outcome). written (to b) q place)) (carries o e) ∙ ap (λ (n : ℕ). written n o place) (sym same) ∙ sym (ap (option_and_then (λ (q : Outcome). written (from a) q place)) e) ∙ h
+    by_outcome None e = let z : output_at from s a place ≡ None = ap (option_and_then (λ (q : Outcome). element_written (from a) q place)) e in absurd (cc)
+    by_outcome (Some o) e = ap (option_and_then (λ (q : Outcome). element_written (to b) q place)) (carries o e) ∙ ap (λ (n : ℕ). element_written n o place) (sym same) ∙ sym (ap (option_and_then (λ (q : Outcome). element_written (from a) q place)) e) ∙ h
 
 -- an output element comes from an outcome
 pub output_outcome : (numbers : ℕ → ℕ) (s : State) (a place : ℕ) (v : Elem) → output_at numbers s a place ≡ Some v → (o : Outcome) × (outcome_at s a ≡ Some o)
 output_outcome numbers s a place v h = by_outcome (outcome_at s a) refl
   where
     by_outcome : (o : Option Outcome) → outcome_at s a ≡ o → (o : Outcome) × (outcome_at s a ≡ Some o)
-    by_outcome None e = let z : output_at numbers s a place ≡ None = ap (option_and_then (λ (q : Outcome). written (numbers a) q place)) e in absurd (cc)
+    by_outcome None e = let z : output_at numbers s a place ≡ None = ap (option_and_then (λ (q : Outcome). element_written (numbers a) q place)) e in absurd (cc)
     by_outcome (Some o) e = (o, e)
 
 -- what is fed is not of the input
@@ -95,12 +95,12 @@ module _ (before new : List Activation) (input : List ℕ) (body : ℕ → List 
 
   -- the outcome of an activation after the epoch
   abbrev pub over : ℕ → Option Outcome
-  over a = option_map_or (outcome_at partial) (number_in frames a) (outcome_at earlier a)
+  over a = option_map_or (outcome_at partial) (number_among frames a) (outcome_at earlier a)
 
-  pub over_frame : (a f : ℕ) → number_in frames a ≡ Some f → over a ≡ outcome_at partial f
+  pub over_frame : (a f : ℕ) → number_among frames a ≡ Some f → over a ≡ outcome_at partial f
   over_frame a f h = ap (λ (o : Option ℕ). option_map_or (outcome_at partial) o (outcome_at earlier a)) h
 
-  pub over_other : (a : ℕ) → number_in frames a ≡ None → over a ≡ outcome_at earlier a
+  pub over_other : (a : ℕ) → number_among frames a ≡ None → over a ≡ outcome_at earlier a
   over_other a h = ap (λ (o : Option ℕ). option_map_or (outcome_at partial) o (outcome_at earlier a)) h
 
   earlier_extends : Extends earlier whole
@@ -114,7 +114,7 @@ module _ (before new : List Activation) (input : List ℕ) (body : ℕ → List 
   element_of_epoch : HasEpoch before new input body readers frames kept plan places → (s : State) → ((f : ℕ) (o : Outcome) → outcome_at s f ≡ Some o → outcome_at whole (get_or frames f 0) ≡ Some o) → (p : Place) (v : Elem) → plan_element plan s (epoch_source acts input frames kept p) ≡ Some v → stream_element whole (stream_source acts input p) ≡ Some v
   element_of_epoch epoch s carries p v = by_kept (value_kept kept p) refl (stream_source acts input p) refl
     where
-      by_number : (a place : ℕ) (n : Option ℕ) → number_in frames a ≡ n → plan_element plan s (option_map_or (λ f. fed f place) n nobody) ≡ Some v → output_at own_number whole a place ≡ Some v
+      by_number : (a place : ℕ) (n : Option ℕ) → number_among frames a ≡ n → plan_element plan s (option_map_or (λ f. fed f place) n nobody) ≡ Some v → output_at own_number whole a place ≡ Some v
       by_number a place None e h = absurd (cc)
       by_number a place (Some f) e h = output_carries (number_at plan) own_number s whole f a place v (number_is epoch f a (numbers_back frames a f e)) (λ o is. ap (outcome_at whole) (sym (get_or_from_slice_get frames f a 0 (numbers_back frames a f e))) ∙ carries f o is) h
 
@@ -122,7 +122,7 @@ module _ (before new : List Activation) (input : List ℕ) (body : ℕ → List 
       by_kept (Some w) k_is source is h = element_kept own_number earlier whole earlier_extends.kept (stream_source acts input p) v ((kept_value acts input earlier frames kept p w epoch.kept_well k_is).1 ∙ h)
       by_kept None k_is (initial w) is h = ap (stream_element whole) is ∙ sym (ap (λ (x : Source). plan_element plan s (among frames x)) is) ∙ h
       by_kept None k_is nobody is h = let z : plan_element plan s (among frames (stream_source acts input p)) ≡ None = ap (λ (x : Source). plan_element plan s (among frames x)) is in absurd (cc)
-      by_kept None k_is (fed a place) is h = ap (stream_element whole) is ∙ by_number a place (number_in frames a) refl (sym (ap (λ (x : Source). plan_element plan s (among frames x)) is) ∙ h)
+      by_kept None k_is (fed a place) is h = ap (stream_element whole) is ∙ by_number a place (number_among frames a) refl (sym (ap (λ (x : Source). plan_element plan s (among frames x)) is) ∙ h)
 
   -- each outcome of the epoch is the run's
   partial_is_whole : HasEpoch before new input body readers frames kept plan places → (f : ℕ) (o : Outcome) → outcome_at partial f ≡ Some o → outcome_at whole (get_or frames f 0) ≡ Some o
@@ -142,7 +142,7 @@ module _ (before new : List Activation) (input : List ℕ) (body : ℕ → List 
   element_in_epoch : HasEpoch before new input body readers frames kept plan places → (s : State) → Extends s whole → ((a : ℕ) (o : Outcome) → outcome_at s a ≡ Some o → over a ≡ Some o) → (p : Place) (v : Elem) → (p.stream ≢ 0 → IsSome (stream_element earlier (stream_source acts input p)) → IsSome (value_kept kept p)) → stream_element s (stream_source acts input p) ≡ Some v → plan_element plan partial (epoch_source acts input frames kept p) ≡ Some v
   element_in_epoch epoch s extends carries p v keeps h = by_kept (value_kept kept p) refl (stream_source acts input p) refl
     where
-      by_number : (a place : ℕ) (n : Option ℕ) → number_in frames a ≡ n → value_kept kept p ≡ None → stream_source acts input p ≡ fed a place → plan_element plan partial (option_map_or (λ f. fed f place) n nobody) ≡ Some v
+      by_number : (a place : ℕ) (n : Option ℕ) → number_among frames a ≡ n → value_kept kept p ≡ None → stream_source acts input p ≡ fed a place → plan_element plan partial (option_map_or (λ f. fed f place) n nobody) ≡ Some v
       by_number a place (Some f) e k_is is = output_carries own_number (number_at plan) s partial a f place v (sym (number_is epoch f a (numbers_back frames a f e))) (λ o at. sym (over_frame a f e) ∙ carries a o at) (sym (ap (stream_element s) is) ∙ h)
       by_number a place None e k_is is =
           let before_it : output_at own_number earlier a place ≡ Some v = output_carries own_number own_number s earlier a a place v refl (λ o at. sym (over_other a e) ∙ carries a o at) (sym (ap (stream_element s) is) ∙ h) in
@@ -154,13 +154,13 @@ module _ (before new : List Activation) (input : List ℕ) (body : ℕ → List 
       by_kept (Some w) k_is source is = sym (element_kept own_number earlier whole earlier_extends.kept (stream_source acts input p) w (kept_value acts input earlier frames kept p w epoch.kept_well k_is).1) ∙ element_kept own_number s whole extends.kept (stream_source acts input p) v h
       by_kept None k_is (initial w) is = ap (λ (x : Source). plan_element plan partial (among frames x)) is ∙ sym (ap (stream_element s) is) ∙ h
       by_kept None k_is nobody is = let z : stream_element s (stream_source acts input p) ≡ None = ap (stream_element s) is in absurd (cc)
-      by_kept None k_is (fed a place) is = ap (λ (x : Source). plan_element plan partial (among frames x)) is ∙ by_number a place (number_in frames a) refl k_is is
+      by_kept None k_is (fed a place) is = ap (λ (x : Source). plan_element plan partial (among frames x)) is ∙ by_number a place (number_among frames a) refl k_is is
 
   -- no activation with an outcome before the epoch is a frame
-  no_frame : HasEpoch before new input body readers frames kept plan places → (a : ℕ) (o : Outcome) → outcome_at earlier a ≡ Some o → number_in frames a ≡ None
-  no_frame epoch a o h = by_number (number_in frames a) refl
+  no_frame : HasEpoch before new input body readers frames kept plan places → (a : ℕ) (o : Outcome) → outcome_at earlier a ≡ Some o → number_among frames a ≡ None
+  no_frame epoch a o h = by_number (number_among frames a) refl
     where
-      by_number : (n : Option ℕ) → number_in frames a ≡ n → number_in frames a ≡ None
+      by_number : (n : Option ℕ) → number_among frames a ≡ n → number_among frames a ≡ None
       by_number None e = e
       by_number (Some f) e = let z = epoch.are_open.waits f a (numbers_back frames a f e) in absurd (cc)
 
@@ -196,9 +196,9 @@ module _ (before new : List Activation) (input : List ℕ) (body : ℕ → List 
           by_outcome : (o : Option Outcome) → outcome_at earlier a ≡ o → over a ≡ Some (poisoning body a vs)
           by_outcome (Some o) e =
               over_other a (no_frame epoch a o e) ∙ e ∙ sym (earlier_extends.kept a o e) ∙ meant
-          by_outcome None e = by_number (number_in frames a) refl
+          by_outcome None e = by_number (number_among frames a) refl
             where
-              by_number : (n : Option ℕ) → number_in frames a ≡ n → over a ≡ Some (poisoning body a vs)
+              by_number : (n : Option ℕ) → number_among frames a ≡ n → over a ≡ Some (poisoning body a vs)
               by_number None out = let z = epoch.are_open.others a lt e out in let m = meant in absurd (cc)
               by_number (Some f) is_f = of_frame f (numbers_back frames a f is_f)
 
@@ -206,14 +206,14 @@ module _ (before new : List Activation) (input : List ℕ) (body : ℕ → List 
   pub over_is_whole : HasEpoch before new input body readers frames kept plan places → (a : ℕ) → over a ≡ outcome_at whole a
   over_is_whole epoch a = by_outcome (outcome_at whole a) refl (over a) refl
     where
-      from_over : (n : Option ℕ) (o : Outcome) → number_in frames a ≡ n → over a ≡ Some o → outcome_at whole a ≡ Some o
+      from_over : (n : Option ℕ) (o : Outcome) → number_among frames a ≡ n → over a ≡ Some o → outcome_at whole a ≡ Some o
       from_over None o e h = earlier_extends.kept a o (sym (over_other a e) ∙ h)
       from_over (Some f) o e h = ap (outcome_at whole) (sym (get_or_from_slice_get frames f a 0 (numbers_back frames a f e))) ∙ partial_is_whole epoch f o (sym (over_frame a f e) ∙ h)
 
       by_outcome : (p : Option Outcome) → outcome_at whole a ≡ p → (q : Option Outcome) → over a ≡ q → over a ≡ outcome_at whole a
       by_outcome (Some o) e q f = whole_is_over epoch a o e ∙ sym e
       by_outcome None e None f = f ∙ sym e
-      by_outcome None e (Some o) f = f ∙ sym (from_over (number_in frames a) o refl f)
+      by_outcome None e (Some o) f = f ∙ sym (from_over (number_among frames a) o refl f)
 
   pub adds_up : HasEpoch before new input body readers frames kept plan places → put_over earlier frames partial (length acts) ≡ whole
   adds_up epoch = same_lists (map over (range_with_len 0 (length acts))) whole (length-map-range_with_len over 0 (length acts) ∙ sym l) (λ k d lt. at k d (omega (arith, length-map-range_with_len over 0 (length acts))))

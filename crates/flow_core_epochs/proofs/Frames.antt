@@ -6,24 +6,24 @@ use Rattle.std.proofs.lemmas.List.Quantifiers.{position-Some}
 use Rattle.std.proofs.lemmas.Option.{slice_get_within, slice_get-get_or, get_or_from_slice_get}
 use Rattle.flow_core_laws.specs.Outcome.{State, outcome_at}
 use Rattle.flow_core_laws.proofs.Sources.{position_only}
-use Rattle.flow_core_epochs.specs.Epoch.{open_in, number_in}
+use Rattle.flow_core_epochs.specs.Epoch.{open_in, number_among}
 use Rattle.flow_core_laws.proofs.Filtered.{filtered_each, filtered_ascends, filtered_all}
 
 -- What frames are: activations without an outcome, each with one number; what is left out gets none.
 pub record AreTaken (state whole : State) (count : ℕ) (frames : List ℕ) : Type 0 where
   pub exists : (f a : ℕ) → slice_get frames f ≡ Some a → a < count
   pub waits : (f a : ℕ) → slice_get frames f ≡ Some a → outcome_at state a ≡ None
-  pub numbered : (f a : ℕ) → slice_get frames f ≡ Some a → number_in frames a ≡ Some f
-  pub others : (a : ℕ) → a < count → outcome_at state a ≡ None → number_in frames a ≡ None → outcome_at whole a ≡ None
+  pub numbered : (f a : ℕ) → slice_get frames f ≡ Some a → number_among frames a ≡ Some f
+  pub others : (a : ℕ) → a < count → outcome_at state a ≡ None → number_among frames a ≡ None → outcome_at whole a ≡ None
 
 -- the number of a frame is that of its activation
-pub numbers_back : (frames : List ℕ) (a f : ℕ) → number_in frames a ≡ Some f → slice_get frames f ≡ Some a
+pub numbers_back : (frames : List ℕ) (a f : ℕ) → number_among frames a ≡ Some f → slice_get frames f ≡ Some a
 numbers_back frames a f h =
     let p = position-Some (λ g. g == a) frames f 0 h in
     slice_get-get_or frames f 0 p.0 ∙ ap Some (eqb-true (get_or frames f 0) a p.1)
 
 -- each of ascending frames has its number
-pub ascending_numbered : (frames : List ℕ) → ((f g a b : ℕ) → f < g → slice_get frames f ≡ Some a → slice_get frames g ≡ Some b → a < b) → (f a : ℕ) → slice_get frames f ≡ Some a → number_in frames a ≡ Some f
+pub ascending_numbered : (frames : List ℕ) → ((f g a b : ℕ) → f < g → slice_get frames f ≡ Some a → slice_get frames g ≡ Some b → a < b) → (f a : ℕ) → slice_get frames f ≡ Some a → number_among frames a ≡ Some f
 ascending_numbered frames ascend f a h = position_only (λ g. g == a) frames f a h (eq-eqb a a refl) (λ j b b_is same. one j b b_is (eqb-true b a same) (cases_order j f))
   where
     one : (j b : ℕ) → slice_get frames j ≡ Some b → b ≡ a → (j ≡ f) ⊎ ((j < f) ⊎ (f < j)) → j ≡ f

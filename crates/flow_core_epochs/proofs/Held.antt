@@ -23,7 +23,7 @@ use Rattle.flow_core_laws.specs.Plans.{sink_elements}
 use Rattle.flow_core_laws.specs.Poisoning.{poisoning}
 use Rattle.flow_core_laws.specs.Streams.{stream_source, stream_reads, stream_meaning, output_elements, stream_element}
 use Rattle.flow_core_laws.proofs.Rounds.{length-meaning}
-use Rattle.flow_core_epochs.specs.Epoch.{open_in, number_in, put_over, is_output_at, ReadNoOutput, Kept, carried_over, output_over, IsKeptFor, IsCarried, IsOutside, StandsForEpoch, LeaveOutWaiting, IsEpoch, IsHeld, IsHeldAfter, epoch_meaning}
+use Rattle.flow_core_epochs.specs.Epoch.{open_in, number_among, put_over, is_output_at, ReadNoOutput, Kept, carried_over, output_over, IsKeptFor, IsCarried, IsOutside, StandsForEpoch, LeaveOutWaiting, IsEpoch, IsHeld, IsHeldAfter, epoch_meaning}
 use Rattle.flow_core_epochs.proofs.Members.{Has}
 use Rattle.flow_core_epochs.proofs.Epochs.{HasEpoch, over_frame, over_other, over_is_whole}
 use Rattle.flow_core_epochs.proofs.Choosing.{end_in, chosen_by, open_by_ends}
@@ -128,13 +128,13 @@ module _ (before new : List Activation) (input : List ℕ) (body : ℕ → List 
   partial = epoch_meaning plan frames body
 
   abbrev end_after : ℕ → Option TaskEnd
-  end_after a = option_map_or (outcome_at run.ends) (number_in frames a) (outcome_at ends a)
+  end_after a = option_map_or (outcome_at run.ends) (number_among frames a) (outcome_at ends a)
 
   -- each end is that of the run
   end_is_whole : (a : ℕ) → end_after a ≡ outcome_at (ends_of whole) a
-  end_is_whole a = by_number (number_in frames a) refl ∙ sym (end_in whole a)
+  end_is_whole a = by_number (number_among frames a) refl ∙ sym (end_in whole a)
     where
-      by_number : (n : Option ℕ) → number_in frames a ≡ n → end_after a ≡ option_map (λ (o : Outcome). o.end) (outcome_at whole a)
+      by_number : (n : Option ℕ) → number_among frames a ≡ n → end_after a ≡ option_map (λ (o : Outcome). o.end) (outcome_at whole a)
       by_number (Some f) e =
           ap (λ (o : Option ℕ). option_map_or (outcome_at run.ends) o (outcome_at ends a)) e
           ∙ ap (λ (es : List (Option TaskEnd)). outcome_at es f) run_ends

@@ -10,7 +10,7 @@ use Rattle.flow_core_laws.specs.declared.plan.Plan.{Plan}
 use Rattle.flow_core_laws.specs.declared.outcome.Outcome.{Outcome}
 use Rattle.flow_core_laws.specs.Outcome.{outcome_at, State}
 use Rattle.flow_core_laws.specs.declared.elem.Elem.TheVariants.{Value}
-use Rattle.flow_core_laws.specs.Element.{Source, initial, fed, nobody, written}
+use Rattle.flow_core_laws.specs.Element.{Source, initial, fed, nobody, element_written}
 use Rattle.flow_core_laws.specs.Place.{Place}
 use Rattle.flow_core_laws.specs.Streams.{input_source, produced_source, stream_source, stream_element, own_number}
 use Rattle.flow_core_laws.specs.Plans.{plan_reads, plan_element, sink_elements}
@@ -32,7 +32,7 @@ module _ (before new : List Activation) (input : List ℕ) (body : ℕ → List 
       ap (λ (k : Option Elem). plan_element plan m (option_map_or initial k (among frames (stream_source (before ++ new) input p)))) (not_kept (value_kept kept p) refl)
       ∙ ap (λ (x : Source). plan_element plan m (among frames x)) is
       ∙ ap (λ (n : Option ℕ). plan_element plan m (option_map_or (λ g. fed g place) n nobody)) (epoch.are_open.numbered f a at)
-      ∙ ap (λ (n : ℕ). option_and_then (λ (q : Outcome). written n q place) (outcome_at m f)) (number_is before new input body readers frames kept plan places epoch f a at)
+      ∙ ap (λ (n : ℕ). option_and_then (λ (q : Outcome). element_written n q place) (outcome_at m f)) (number_is before new input body readers frames kept plan places epoch f a at)
       ∙ ap (λ (o : Option Outcome). option_output o) (sym (over_frame before new input body readers frames kept plan places a f (epoch.are_open.numbered f a at)) ∙ over_is_whole before new input body readers frames kept plan places epoch a)
       ∙ sym (ap (stream_element all) is)
     where
@@ -43,7 +43,7 @@ module _ (before new : List Activation) (input : List ℕ) (body : ℕ → List 
       all = whole before new input body readers frames kept plan places
 
       option_output : Option Outcome → Option Elem
-      option_output o = option_and_then (λ (q : Outcome). written a q place) o
+      option_output o = option_and_then (λ (q : Outcome). element_written a q place) o
 
       not_kept : (k : Option Elem) → value_kept kept p ≡ k → value_kept kept p ≡ None
       not_kept None e = e

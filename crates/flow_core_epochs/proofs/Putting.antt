@@ -10,7 +10,7 @@ use Rattle.std.proofs.lemmas.List.FromFn.{get_or-map-range_with_len, length-map-
 use Rattle.std.proofs.lemmas.Option.{same_Some, slice_get_within, slice_get-get_or}
 use Rattle.flow_core_laws.specs.Outcome.{outcome_at}
 use Rattle.flow_core_laws.proofs.Sources.{position_only}
-use Rattle.flow_core_epochs.specs.Epoch.{open_in, number_in, put_over}
+use Rattle.flow_core_epochs.specs.Epoch.{open_in, number_among, put_over}
 use Rattle.flow_core_epochs.proofs.Frames.{numbers_back}
 
 module _ {O : Type 0} where
@@ -43,19 +43,19 @@ module _ {O : Type 0} where
       stay a none (inr other) = get_or-set_other new next a (get_or run n None) None other ∙ put.others a (λ f l at. none f (omega arith) at)
 
   pub IsPut-all : (old new : List (Option O)) (frames : List ℕ) (run : List (Option O)) (n : ℕ) → ((f g a : ℕ) → slice_get frames f ≡ Some a → slice_get frames g ≡ Some a → f ≡ g) → length new ≡ length old → length frames ≤ n → IsPut old new frames run n → new ≡ put_over old frames run (length old)
-  IsPut-all old new frames run n differ len all put = same_lists new (put_over old frames run (length old)) (len ∙ sym (length-map-range_with_len after 0 (length old))) (λ k d lt. get_or_default new k d None lt ∙ each k (number_in frames k) refl ∙ sym (get_or-map-range_with_len after 0 (length old) k k d (omega (arith, len)) (omega arith)))
+  IsPut-all old new frames run n differ len all put = same_lists new (put_over old frames run (length old)) (len ∙ sym (length-map-range_with_len after 0 (length old))) (λ k d lt. get_or_default new k d None lt ∙ each k (number_among frames k) refl ∙ sym (get_or-map-range_with_len after 0 (length old) k k d (omega (arith, len)) (omega arith)))
     where
       after : ℕ → Option O
-      after a = option_map_or (outcome_at run) (number_in frames a) (outcome_at old a)
+      after a = option_map_or (outcome_at run) (number_among frames a) (outcome_at old a)
 
-      each : (k : ℕ) (m : Option ℕ) → number_in frames k ≡ m → outcome_at new k ≡ after k
+      each : (k : ℕ) (m : Option ℕ) → number_among frames k ≡ m → outcome_at new k ≡ after k
       each k (Some f) e =
           let at = numbers_back frames k f e in
           put.frames_have f k (let l = slice_get_within frames f k at in omega arith) at ∙ sym (ap (λ (m : Option ℕ). option_map_or (outcome_at run) m (outcome_at old k)) e)
       each k None e = put.others k (λ f l at. no_number k f e at) ∙ sym (ap (λ (m : Option ℕ). option_map_or (outcome_at run) m (outcome_at old k)) e)
         where
-          no_number : (k f : ℕ) → number_in frames k ≡ None → slice_get frames f ≡ Some k → ⊥
-          no_number k f e at = let z : number_in frames k ≡ Some f = position_only (λ g. g == k) frames f k at (eq-eqb k k refl) (λ j b b_is same. differ j f k (b_is ∙ ap Some (eqb-true b k same)) at) in absurd (cc)
+          no_number : (k f : ℕ) → number_among frames k ≡ None → slice_get frames f ≡ Some k → ⊥
+          no_number k f e at = let z : number_among frames k ≡ Some f = position_only (λ g. g == k) frames f k at (eq-eqb k k refl) (λ j b b_is same. differ j f k (b_is ∙ ap Some (eqb-true b k same)) at) in absurd (cc)
 
 -- one more number
 range_more : (a n : ℕ) → range_with_len a (n + 1) ≡ range_with_len a n ++ (a + n) ∷ []

@@ -13,8 +13,8 @@ use Rattle.flow_core_laws.specs.declared.plan.Plan.{Plan}
 use Rattle.flow_core_laws.specs.Outcome.{outcome_of}
 use Rattle.flow_core_epochs.specs.Epoch.{Kept}
 
-abbrev pub writes : ℕ → ℕ → Claim
-writes stream horizon = record { stream = stream; write = true; horizon = horizon; burst = horizon; skip = 0 }
+abbrev pub write_claim : ℕ → ℕ → Claim
+write_claim stream horizon = record { stream = stream; write = true; horizon = horizon; burst = horizon; skip = 0 }
 
 -- the reader skips one element and reads two
 abbrev pub reads_two : Claim
@@ -24,10 +24,10 @@ abbrev pub task : List Claim → Activation
 task claims = record { site = 0; captured = []; claims = claims }
 
 abbrev pub before : List Activation
-before = task (writes 2 2 ∷ []) ∷ task (reads_two ∷ writes 1 1 ∷ []) ∷ []
+before = task (write_claim 2 2 ∷ []) ∷ task (reads_two ∷ write_claim 1 1 ∷ []) ∷ []
 
 abbrev pub new : List Activation
-new = task (writes 2 1 ∷ []) ∷ []
+new = task (write_claim 2 1 ∷ []) ∷ []
 
 -- the ends of the writers
 abbrev pub body : TaskEnd → TaskEnd → ℕ → List ℤ → Outcome

@@ -9,7 +9,7 @@ use Rattle.flow_core_laws.specs.Laws.{IsKept}
 use Rattle.flow_core_laws.specs.declared.elem.Elem.{Elem}
 use Rattle.flow_core_laws.specs.declared.outcome.Outcome.{Outcome}
 use Rattle.flow_core_laws.specs.declared.plan.Plan.{Plan}
-use Rattle.flow_core_laws.specs.Element.{initial, fed, nobody, written, element}
+use Rattle.flow_core_laws.specs.Element.{initial, fed, nobody, element_written, element}
 use Rattle.flow_core_laws.specs.Streams.{own_number}
 use Rattle.flow_core_laws.specs.Plans.{number_at}
 use Rattle.flow_core_laws.specs.StandsFor.{StandsFor}
@@ -19,9 +19,9 @@ pub element_kept : (numbers : ℕ → ℕ) → IsKept (element numbers)
 element_kept numbers s t e (initial w) v h = h
 element_kept numbers s t e (fed a k) v h = output_more (outcome_at s a) refl
   where
-    output_more : (o : Option Outcome) → outcome_at s a ≡ o → option_and_then (λ (q : Outcome). written (numbers a) q k) (outcome_at t a) ≡ Some v
-    output_more None is = let z : ◌≡◌ {A = Option Elem} None (Some v) = sym (ap (option_and_then (λ (q : Outcome). written (numbers a) q k)) is) ∙ h in absurd (cc)
-    output_more (Some o) is = ap (option_and_then (λ (q : Outcome). written (numbers a) q k)) (e a o is) ∙ sym (ap (option_and_then (λ (q : Outcome). written (numbers a) q k)) is) ∙ h
+    output_more : (o : Option Outcome) → outcome_at s a ≡ o → option_and_then (λ (q : Outcome). element_written (numbers a) q k) (outcome_at t a) ≡ Some v
+    output_more None is = let z : ◌≡◌ {A = Option Elem} None (Some v) = sym (ap (option_and_then (λ (q : Outcome). element_written (numbers a) q k)) is) ∙ h in absurd (cc)
+    output_more (Some o) is = ap (option_and_then (λ (q : Outcome). element_written (numbers a) q k)) (e a o is) ∙ sym (ap (option_and_then (λ (q : Outcome). element_written (numbers a) q k)) is) ∙ h
 element_kept numbers s t e nobody v h = absurd (cc)
 
 -- a stretch of numbers at its places

@@ -15,7 +15,7 @@ use Rattle.flow_core_laws.specs.declared.elem.Elem.TheVariants.{Value, Poison}
 use Rattle.flow_core_laws.specs.declared.task_end.TaskEnd.{TaskEnd}
 use Rattle.flow_core_laws.specs.declared.task_end.TaskEnd.TheVariants.{Done, Trapped, OverBudget, Poisoned}
 use Rattle.flow_core_laws.specs.declared.outcome.Outcome.{Outcome}
-use Rattle.flow_core_laws.specs.Element.{initial, fed, nobody, output_element, written}
+use Rattle.flow_core_laws.specs.Element.{initial, fed, nobody, output_element, element_written}
 use Rattle.flow_core_laws.specs.Poisoning.{values_of, least_root, poisoning}
 use Rattle.flow_core_laws.specs.Streams.{input_source, produced_source, stream_source, stream_reads, own_number, stream_element, stream_meaning}
 use Rattle.flow_core_laws.specs.Laws.{NeverPoisons}
@@ -74,7 +74,7 @@ module _ (activations : List Activation) (input : List ℕ) (body : ℕ → List
       by_byte None h = absurd (cc)
       by_byte (Some x) h = let z : Value (pos x) ≡ Poison r = same_Some (Value (pos x)) (Poison r) h in absurd (cc)
 
-      by_outcome : (b place : ℕ) (o : Option Outcome) → outcome_at s b ≡ o → option_and_then (λ (q : Outcome). written b q place) o ≡ Some (Poison r) → (b : ℕ) × (o : Outcome) × (outcome_at s b ≡ Some o) × (root_of b o.end ≡ Some r)
+      by_outcome : (b place : ℕ) (o : Option Outcome) → outcome_at s b ≡ o → option_and_then (λ (q : Outcome). element_written b q place) o ≡ Some (Poison r) → (b : ℕ) × (o : Outcome) × (outcome_at s b ≡ Some o) × (root_of b o.end ≡ Some r)
       by_outcome b place None is h = absurd (cc)
       by_outcome b place (Some o) is h = (b, o, is, written_poison (root_of b o.end) o.outputs place r h)
 

@@ -92,8 +92,8 @@ output_there activations state a place x filled x_is lt = by_outcome (outcome_at
     by_end o (Poisoned root) is e = ap (λ (end : TaskEnd). is_some (output_element (root_of a end) o.outputs place)) e
 
     by_outcome : (o : Option Outcome) → outcome_at state a ≡ o → is_some (output_at own_number state a place) ≡ is_some (option_map (λ (q : Outcome). q.end) (outcome_at state a))
-    by_outcome None is = ap (λ (p : Option Outcome). is_some (option_and_then (λ (q : Outcome). elements.written a q place) p)) is ∙ sym (ap (λ (p : Option Outcome). is_some (option_map (λ (q : Outcome). q.end) p)) is)
-    by_outcome (Some o) is = ap (λ (p : Option Outcome). is_some (option_and_then (λ (q : Outcome). elements.written a q place) p)) is ∙ by_end o o.end is refl ∙ sym (ap (λ (p : Option Outcome). is_some (option_map (λ (q : Outcome). q.end) p)) is)
+    by_outcome None is = ap (λ (p : Option Outcome). is_some (option_and_then (λ (q : Outcome). elements.element_written a q place) p)) is ∙ sym (ap (λ (p : Option Outcome). is_some (option_map (λ (q : Outcome). q.end) p)) is)
+    by_outcome (Some o) is = ap (λ (p : Option Outcome). is_some (option_and_then (λ (q : Outcome). elements.element_written a q place) p)) is ∙ by_end o o.end is refl ∙ sym (ap (λ (p : Option Outcome). is_some (option_map (λ (q : Outcome). q.end) p)) is)
 
 -- an element of the input is there below the length
 input_there : (input : List ℕ) (state : State) (position : ℕ) → is_some (stream_element state (input_source input position)) ≡ nat_lt position (length input)

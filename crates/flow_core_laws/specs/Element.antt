@@ -20,13 +20,13 @@ output_element None outputs place = option_map Value (slice_get outputs place)
 
 -- What an activation with a number and an outcome wrote at a place of its outputs: its value where it is Done, and
 -- else poison with the root of its end.
-abbrev pub written : ℕ → Outcome → ℕ → Option Elem
-written number outcome place = output_element (root_of number outcome.end) outcome.outputs place
+abbrev pub element_written : ℕ → Outcome → ℕ → Option Elem
+element_written number outcome place = output_element (root_of number outcome.end) outcome.outputs place
 
 -- An output element of an activation in a state: it is there where the activation has an end. The numbers by
 -- which poison names its roots are given for each activation.
 abbrev pub output_at : (ℕ → ℕ) → State → ℕ → ℕ → Option Elem
-output_at numbers state activation place = option_and_then (λ (o : Outcome). written (numbers activation) o place) (outcome_at state activation)
+output_at numbers state activation place = option_and_then (λ (o : Outcome). element_written (numbers activation) o place) (outcome_at state activation)
 
 -- The element of a source in a state, if it is there.
 abbrev pub element : (ℕ → ℕ) → State → Source → Option Elem

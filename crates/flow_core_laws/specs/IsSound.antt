@@ -6,11 +6,11 @@ use Rattle.flow_core_laws.specs.declared.plan.Piece.{Piece}
 use Rattle.flow_core_laws.specs.declared.plan.Plan.{Plan}
 use Rattle.flow_core_laws.specs.Plans.{frame_at, number_at, held_at, missing_of}
 
--- A cell is one of a frame's.
+-- A frame has a cell: it is one of those from the frame's first cell on, as many as the frame has inputs.
 abbrev pub HasCell : Plan → ℕ → ℕ → Type 0
 HasCell plan frame cell = ((frame_at plan frame).cell ≤ cell) × (cell < (frame_at plan frame).cell + (frame_at plan frame).inputs)
 
--- The piece of a number covers a cell.
+-- The piece numbered `number` covers a cell.
 abbrev pub Covers : Plan → ℕ → ℕ → Type 0
 Covers plan number cell = (p : Piece) × (slice_get plan.pieces number ≡ Some p) × (p.at ≤ cell) × (cell < p.at + p.count)
 

@@ -15,6 +15,13 @@ abbrev pub outcome_of : TaskEnd → List ℤ → Outcome
 outcome_of Done outputs = record { end = Done; outputs = outputs; only_done = λ not_done. absurd (not_done refl) }
 outcome_of end outputs = record { end = end; outputs = []; only_done = λ not_done. refl }
 
+-- The outcomes of a body that traps, by the trap's code and line, and of one that uses up its turns: it writes nothing.
+abbrev pub trapped : (code line : ℕ) → Outcome
+trapped code line = outcome_of (Trapped code line) []
+
+abbrev pub over_budget : Outcome
+over_budget = outcome_of OverBudget []
+
 -- A state gives each activation an outcome, or none.
 abbrev pub State : Type 0
 State = List (Option Outcome)
@@ -30,9 +37,13 @@ root_of number Done = None
 root_of number (Poisoned root) = Some root
 root_of number _ = Some number
 
--- A trap has a code from 1 to 8.
+-- the last code that a trap has
+abbrev pub last_trap_code : ℕ
+last_trap_code = 8
+
+-- A trap has a code from 1 to that one.
 abbrev pub IsTrapCode : ℕ → Type 0
-IsTrapCode code = (1 ≤ code) × (code ≤ 8)
+IsTrapCode code = (1 ≤ code) × (code ≤ last_trap_code)
 
 -- whether an activation with this end failed itself: it trapped, or used up its turns
 abbrev pub has_failed : TaskEnd → Bool

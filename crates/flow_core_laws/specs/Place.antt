@@ -10,7 +10,7 @@ pub record Place : Type 0 where
   pub stream : ℕ
   pub position : ℕ
 
--- The places on a stream from a first position on, as many as a number.
+-- The `count` places on a stream from position `first` on.
 abbrev pub places_from : ℕ → ℕ → ℕ → List Place
 places_from stream first count = map (λ position. record { stream = stream; position = position }) (range_with_len first count)
 

@@ -56,3 +56,7 @@ output_elements activations input state = map (stream_element state) (map (strea
 -- What a state of the streams comes to: the ends of the activations, and the elements of the output.
 abbrev pub stream_ends : List Activation → List ℕ → State → Ends
 stream_ends activations input state = record { ends = ends_of state; output = output_elements activations input state }
+
+-- What activations come to over an input: their data-flow meaning, with these bodies.
+abbrev pub meant_ends : List Activation → List ℕ → (ℕ → List ℤ → Outcome) → Ends
+meant_ends activations input body = stream_ends activations input (stream_meaning activations input body)

@@ -24,6 +24,10 @@ claims_of activations = flat_map (λ (a : Activation). a.claims) activations
 abbrev pub claims_at : List Activation → ℕ → List Claim
 claims_at activations a = option_map_or (λ (x : Activation). x.claims) (slice_get activations a) []
 
+-- the sum of the horizons of claims
+abbrev pub horizon_sum : List Claim → ℕ
+horizon_sum claims = sum_by (λ (claim : Claim). claim.horizon) claims
+
 -- whether two claims are both read claims, or both write claims
 abbrev pub is_alike : Claim → Claim → Bool
 is_alike a b = beq a.write b.write

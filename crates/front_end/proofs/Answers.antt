@@ -4,12 +4,13 @@ use Rattle.std.proofs.lemmas.List.Elements.{All-cons, All-contains, All-nil}
 use Rattle.front_end.proofs.Lines.{KindsAreSpelled, MarksAreOfTokens, least_is_one}
 use Rattle.front_end.specs.Codes.{no_program}
 use Rattle.front_end.specs.Texts.{AcceptedOrRefused, IsProgramOf, IsAccepted, IsNoProgram, IsRefused, has_fault, is_no_program, has_violation, IsTrueOf, NeverBoth, OneProgram, OneRefusal}
-use Rattle.front_end.specs.Told.{told_fault, told_syntax, told_violation}
+use Rattle.front_end.specs.Told.{HasRule, IsToldViolation, told_fault, told_syntax}
+use Rattle.front_end.specs.declared.text_error.TextError.{TextError}
 use Rattle.os_ast.specs.Codes.{code as code_of}
 use Rattle.os_ast.specs.Fronts.{HasPlace, IsPlace, IsRefusedAt, OnePlace, line_at}
 use Rattle.os_ast.specs.Means.{Means, OneReading, placed_from}
 use Rattle.os_ast.specs.Trees.{ProgramTree}
-use Rattle.os_ast.specs.Violations.{violations, IsBefore, IsRefusal}
+use Rattle.os_ast.specs.Violations.{violations, IsNotAbove, IsRefusal}
 use Rattle.os_ast.specs.declared.violation.Violation.{Violation}
 use Rattle.os_ast.specs.declared.program.Program.{Program}
 use Rattle.os_lexer.specs.Answer.{IsFaultOf}
@@ -101,7 +102,7 @@ judged p = by (violations p) refl
           least,
           record {
             among = subst (λ vs. Contains vs least) (sym is) (among u us (least-among u us));
-            least = subst (λ vs. All (IsBefore least) vs) (sym is) (All-cons (IsBefore least) u us (least-first u us) (least-others u us));
+            least = subst (λ vs. All (IsNotAbove least) vs) (sym is) (All-cons (IsNotAbove least) u us (least-first u us) (least-others u us));
           },
         )
 
@@ -138,6 +139,13 @@ pub true_syntax : (text : List ℕ) (tokens : List Token) (r : Result Program Pa
 true_syntax text tokens r (parse.Syntax place line) cover is refused = is_no_program (tokens, place, cover, refused place line is)
 true_syntax text tokens r parse.Memory cover is refused = tt
 
-pub true_violation : (text : List ℕ) (p : ProgramTree) (e : CheckError) → IsProgramOf text p → IsAnswer p e → IsTrueOf text (told_violation e)
-true_violation text p (check.Fault code line) means h = has_violation (p, h.0, means, h.1, h.2, h.3)
-true_violation text p check.Memory means h = tt
+-- what a program is refused for has the code of a rule
+pub has_rule : (p : ProgramTree) (e : CheckError) → IsAnswer p e → HasRule e
+has_rule p (check.Fault code line) h = (h.0.rule, h.2)
+has_rule p check.Memory h = tt
+
+pub true_violation : (text : List ℕ) (p : ProgramTree) (e : CheckError) (told : TextError) → IsProgramOf text p → IsAnswer p e
+    → IsToldViolation e told → IsTrueOf text told
+true_violation text p (check.Fault code line) told means h is =
+    subst (λ (error : TextError). IsTrueOf text error) (sym is.2) (has_violation (p, h.0, means, h.1, h.2 ∙ sym is.1, h.3))
+true_violation text p check.Memory told means h is = subst (λ (error : TextError). IsTrueOf text error) (sym is) tt

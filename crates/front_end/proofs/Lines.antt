@@ -12,7 +12,7 @@ use Rattle.os_ast.specs.Notes.Programs.{file, program_notes}
 use Rattle.os_ast.specs.Rules.{broken}
 use Rattle.os_ast.specs.Spelling.{Symbol, bare, kind_of, marked, symbols, spell}
 use Rattle.os_ast.specs.Trees.{ProgramTree}
-use Rattle.os_ast.specs.Violations.{IsBefore, IsRefusal, earlier, violations_of, violations_at, has_main, no_main, same_place, violated, violations}
+use Rattle.os_ast.specs.Violations.{IsNotAbove, IsRefusal, earlier, violations_of, violations_at, has_main, no_main, same_place, violated, violations}
 use Rattle.os_ast.specs.declared.expr.Mark.{Mark}
 use Rattle.os_ast.specs.declared.violation.Violation.{Violation}
 use Rattle.os_lexer.specs.declared.token.Kind.TheVariants as kind
@@ -93,7 +93,7 @@ module _ (marks : MarksAreOfTokens) (kinds : KindsAreSpelled) (tokens : List Tok
       end_lined true e = rw e (All-nil (IsLined tokens))
       end_lined false e = rw e (All-cons (IsLined tokens) (violated (length (spell p)) rule.NoMain 1) [] (inr (as_long, refl)) (All-nil (IsLined tokens)))
 
-  same_both : {v w : Violation} → IsBefore v w → IsBefore w v → (v.place ≡ w.place) × (code v.rule ≡ code w.rule)
+  same_both : {v w : Violation} → IsNotAbove v w → IsNotAbove w v → (v.place ≡ w.place) × (code v.rule ≡ code w.rule)
   same_both (earlier a) (earlier b) = absurd (omega (arith, a, b))
   same_both (earlier a) (same_place b c) = absurd (omega (arith, a, b))
   same_both (same_place a c) (earlier b) = absurd (omega (arith, a, b))
@@ -103,8 +103,8 @@ module _ (marks : MarksAreOfTokens) (kinds : KindsAreSpelled) (tokens : List Tok
   pub least_is_one : (v w : Violation) → IsRefusal p v → IsRefusal p w → (code v.rule ≡ code w.rule) × (v.line ≡ w.line)
   least_is_one v w a b =
       let both = same_both
-      (All-contains (IsBefore v) (violations p) w a.least b.among)
-      (All-contains (IsBefore w) (violations p) v b.least a.among) in (
+      (All-contains (IsNotAbove v) (violations p) w a.least b.among)
+      (All-contains (IsNotAbove w) (violations p) v b.least a.among) in (
         both.1,
         one_line tokens v w (All-contains (IsLined tokens) (violations p) v violations_lined a.among)
             (All-contains (IsLined tokens) (violations p) w violations_lined b.among) both.0,

@@ -1,6 +1,6 @@
 -- What a text means, and what is wrong with one that isn't accepted.
 use Rattle.std.specs.Prelude.{◌≡◌, ◌⊎◌, ⊤, ℕ, List, []}
-use Rattle.front_end.specs.Codes.{no_program}
+use Rattle.front_end.specs.Codes.{no_program, refusal_code}
 use Rattle.front_end.specs.declared.text_error.TextError.{TextError}
 use Rattle.front_end.specs.declared.text_error.TextError.TheVariants as errors
 use Rattle.os_ast.specs.Codes.{code}
@@ -37,7 +37,7 @@ pub data IsRefused (text : List ℕ) : ℕ → ℕ → Type 0 where
 
 -- an error says what is wrong, or that memory ran out
 abbrev pub IsTrueOf : List ℕ → TextError → Type 0
-IsTrueOf text (errors.Refused code line) = IsRefused text code line
+IsTrueOf text (errors.Refused refusal line) = IsRefused text (refusal_code refusal) line
 IsTrueOf text errors.Memory = ⊤
 
 -- a text is accepted as one program

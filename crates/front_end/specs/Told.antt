@@ -1,8 +1,11 @@
 -- What an error of each stop is told as.
-use Rattle.front_end.specs.Codes.{fault_code, no_program}
+use Rattle.std.specs.Prelude.{◌≡◌, ⊤}
 use Rattle.front_end.specs.declared.text_error.TextError.{TextError}
 use Rattle.front_end.specs.declared.text_error.TextError.TheVariants as errors
 use Rattle.front_end.specs.declared.text_fault.TextFault.TheVariants as fault
+use Rattle.front_end.specs.declared.text_refusal.TextRefusal.TheVariants as refusals
+use Rattle.os_ast.specs.Codes.{code as code_of}
+use Rattle.os_ast.specs.declared.rule.Rule.{Rule}
 use Rattle.os_lexer.specs.declared.fault.LexError.{LexError}
 use Rattle.os_lexer.specs.declared.fault.LexError.TheVariants as lex
 use Rattle.os_parser.specs.declared.parse_error.ParseError.{ParseError}
@@ -12,17 +15,22 @@ use Rattle.window_check.specs.declared.check_error.CheckError.TheVariants as che
 
 -- the first fault of a text
 abbrev pub told_fault : LexError → TextError
-told_fault (lex.BadByte line) = errors.Refused (fault_code fault.BadByte) line
-told_fault (lex.OpenComment line) = errors.Refused (fault_code fault.OpenComment) line
-told_fault (lex.BigNumber line) = errors.Refused (fault_code fault.BigNumber) line
+told_fault (lex.BadByte line) = errors.Refused (refusals.Fault fault.BadByte) line
+told_fault (lex.OpenComment line) = errors.Refused (refusals.Fault fault.OpenComment) line
+told_fault (lex.BigNumber line) = errors.Refused (refusals.Fault fault.BigNumber) line
 told_fault lex.Memory = errors.Memory
 
 -- tokens of no program
 abbrev pub told_syntax : ParseError → TextError
-told_syntax (parse.Syntax place line) = errors.Refused no_program line
+told_syntax (parse.Syntax place line) = errors.Refused refusals.NoProgram line
 told_syntax parse.Memory = errors.Memory
 
--- the least violation
-abbrev pub told_violation : CheckError → TextError
-told_violation (check.Fault code line) = errors.Refused code line
-told_violation check.Memory = errors.Memory
+-- its code, where it has one, is that of a rule
+abbrev pub HasRule : CheckError → Type 0
+HasRule (check.Fault code line) = (rule : Rule) × (code_of rule ≡ code)
+HasRule check.Memory = ⊤
+
+-- the least violation, by the rule of its code
+abbrev pub IsToldViolation : CheckError → TextError → Type 0
+IsToldViolation (check.Fault code line) told = (rule : Rule) × (code_of rule ≡ code) × (told ≡ errors.Refused (refusals.Violated rule) line)
+IsToldViolation check.Memory told = told ≡ errors.Memory

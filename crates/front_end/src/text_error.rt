@@ -1,10 +1,11 @@
 ghost use Rattle.std.specs.Prelude.{◌≡◌};
-ghost use Rattle.front_end.specs.Codes.{fault_code};
-ghost use Rattle.front_end.specs.Told.{told_fault, told_syntax, told_violation};
+ghost use Rattle.front_end.specs.Told.{HasRule, IsToldViolation, told_fault, told_syntax};
 ghost use Rattle.front_end.specs.declared.text_error.TextError.TheVariants as errors;
+ghost use Rattle.front_end.specs.declared.text_refusal.TextRefusal.TheVariants as refusals;
 
 use crate::text_fault::TextFault;
-use os_ast::NO_PROGRAM;
+use crate::text_refusal::TextRefusal;
+use os_ast::Rule;
 use os_lexer::LexError;
 use os_parser::ParseError;
 use thiserror::Error;
@@ -13,10 +14,10 @@ use window_check::CheckError;
 /// Why a text was not accepted.
 #[derive(Clone, Copy, Debug, PartialEq, Eq, Error)]
 pub enum TextError {
-    /// The code of what is wrong, and the line: 1 to 3 for its first fault, 4 where its tokens stop being the front of
-    /// any program, 10 to 24 for its least violation.
-    #[error("refused by rule {code} in line {line}")]
-    Refused { code: u8, line: u32 },
+    /// What is wrong, and the line: that of its first fault, where its tokens stop being the front of any program, or
+    /// that of its least violation.
+    #[error("refused by rule {} in line {line}", .refusal.code())]
+    Refused { refusal: TextRefusal, line: u32 },
     /// Memory could not be had. This says nothing of the text.
     #[error("memory could not be had")]
     Memory,
@@ -24,10 +25,10 @@ pub enum TextError {
 
 /// What is told of a fault in a line.
 fn refused_for(fault: TextFault, line: u32) -> TextError
-    ensures { result ≡ errors.Refused (fault_code fault) line }
+    ensures { result ≡ errors.Refused (refusals.Fault fault) line }
 {
     TextError::Refused {
-        code: fault.code(),
+        refusal: TextRefusal::Fault(fault),
         line,
     }
 }
@@ -50,7 +51,7 @@ pub(crate) fn syntax_error(error: ParseError) -> TextError
 {
     match error {
         ParseError::Syntax { line, .. } => TextError::Refused {
-            code: NO_PROGRAM,
+            refusal: TextRefusal::NoProgram,
             line,
         },
         ParseError::Memory => TextError::Memory,
@@ -59,10 +60,17 @@ pub(crate) fn syntax_error(error: ParseError) -> TextError
 
 /// What the least violation of a program is told as.
 pub(crate) fn violation_error(error: CheckError) -> TextError
-    ensures { result ≡ told_violation error }
+    requires { HasRule error }
+    ensures { IsToldViolation error result }
 {
     match error {
-        CheckError::Fault { code, line } => TextError::Refused { code, line },
+        CheckError::Fault { code, line } => match Rule::of_code(code) {
+            Some(rule) => TextError::Refused {
+                refusal: TextRefusal::Violated(rule),
+                line,
+            },
+            None => unreachable!(),
+        },
         CheckError::Memory => TextError::Memory,
     }
 }

@@ -1,9 +1,10 @@
 //! Files in memory: which calls fail, and what the others give.
 
-ghost use Rattle.std.specs.Prelude.{◌≤◌, ◌^◌};
+ghost use Rattle.std.specs.Prelude.{◌≤◌};
+ghost use Rattle.os_io.specs.Limits.{read_limit};
 
 use crate::files::{Call, Step, gives};
-use os_io::{Failed, Loaded, MemFiles, ReadError, read_whole};
+use os_io::{Failed, Loaded, MemFiles, READ_LIMIT, ReadError, read_whole};
 use std::alloc::{AllocError, Global};
 use std::process::Abort;
 use std::test::Fail;
@@ -40,7 +41,7 @@ fn length_read(
     limit: u64,
     failing: u64,
 ) -> Result<Option<usize>, ReadError>
-    requires { limit ≤ 2 ^ 26 }
+    requires { limit ≤ read_limit }
 {
     let mut files = MemFiles::new(alloc);
     files.add("text", text)?;
@@ -71,7 +72,7 @@ fn has_lengths(
     readings: &[Reading],
 ) -> Result<(), Fail> {
     for (limit, failing, length) in readings {
-        let found = length_read(alloc, text, (*limit).min(67_108_864), *failing)?;
+        let found = length_read(alloc, text, (*limit).min(READ_LIMIT), *failing)?;
         assert!(rt; found == *length);
     }
     Ok(())

@@ -4,11 +4,9 @@
 
 use os_io::{HostFiles, HostSink};
 use osrun_core::{NoGate, run_words};
+use osrun_core_jobs::Status;
 use std::alloc::{AllocError, Global};
 use std::process::ExitCode;
-
-/// The status where memory could not be had for the words.
-const NO_MEMORY: u8 = 7;
 
 /// The words of a run of a program over `in.bin`.
 fn words(alloc: Global, program: &str, workers: &str) -> Result<Vec<String>, AllocError> {
@@ -25,7 +23,7 @@ fn main(rt: HostRuntime) -> ExitCode {
     for program in ["invert.c", "smooth.c", "broadcast.c"] {
         for workers in ["1", "3", "64"] {
             let Ok(words) = words(rt.alloc(), program, workers) else {
-                return ExitCode::from(NO_MEMORY);
+                return ExitCode::from(Status::NoMemory.code());
             };
             let status = run_words(
                 &rt,

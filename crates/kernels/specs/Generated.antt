@@ -11,6 +11,6 @@ generator_state seed (suc k) = (1103515245 * generator_state seed k + 12345) % 2
 abbrev pub byte : ℕ → ℕ → ℕ
 byte seed k = generator_state seed (suc k) / 65536 % 256
 
--- the first bytes, so many
+-- the first `count` bytes from a seed
 abbrev pub generated : ℕ → ℕ → List ℕ
 generated seed count = map (byte seed) (range_with_len 0 count)

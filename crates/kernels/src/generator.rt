@@ -10,7 +10,7 @@ const FACTOR: u32 = 1_103_515_245;
 /// What the recurrence adds at each step.
 const STEP: u32 = 12_345;
 
-/// Makes so many bytes from a seed. Each is taken from the high half of the next state.
+/// Makes `count` bytes from a seed. Each is taken from the high half of the next state.
 pub fn generate(alloc: Global, seed: u32, count: u32) -> Result<Vec<u8>, Memory>
     ensures { IfOk result (λ bytes. bytes.items ≡ generated seed count) }
 {

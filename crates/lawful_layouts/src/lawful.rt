@@ -14,7 +14,7 @@ use stream_match_layouts::Layout;
 /// What the moves of a run's cursors stay below together.
 const MOVES_BOUND: u64 = 1 << 62;
 
-/// The layout of activations over so many streams and an input of so many elements, or none where they aren't lawful.
+/// The layout of activations over `streams` streams and an input of `input_len` elements, or none where they aren't lawful.
 pub fn lawful_layout(
     alloc: Global,
     streams: u32,
@@ -33,7 +33,7 @@ pub fn lawful_layout(
     Ok(Some(laid_out(alloc, streams, input_len, activations)?))
 }
 
-/// Whether activations are lawful over so many streams.
+/// Whether activations are lawful over `streams` streams.
 fn are_lawful(alloc: Global, streams: u32, activations: &[Activation]) -> Result<bool, Memory>
     ensures lawful { IfOk result (λ lawful. lawful ≡ true → AreLawful streams activations.now) }
     ensures unlawful { IfOk result (λ lawful. lawful ≡ false → AreLawful streams activations.now → ⊥) }
@@ -79,7 +79,7 @@ fn claims_in(alloc: Global, activations: &[Activation]) -> Result<Vec<Claim>, Me
     Ok(claims)
 }
 
-/// Whether claims are lawful over so many streams.
+/// Whether claims are lawful over `streams` streams.
 fn are_claims_lawful(streams: u32, claims: &[Claim]) -> bool
     ensures lawful { result ≡ true → All (IsLawfulClaim streams) claims.now }
     ensures unlawful { result ≡ false → All (IsLawfulClaim streams) claims.now → ⊥ }
@@ -92,7 +92,7 @@ fn are_claims_lawful(streams: u32, claims: &[Claim]) -> bool
     true
 }
 
-/// Whether a claim is lawful over so many streams.
+/// Whether a claim is lawful over `streams` streams.
 fn is_lawful(streams: u32, claim: Claim) -> bool
     ensures lawful { result ≡ true → IsLawfulClaim streams claim }
     ensures unlawful { result ≡ false → IsLawfulClaim streams claim → ⊥ }

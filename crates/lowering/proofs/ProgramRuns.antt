@@ -11,7 +11,7 @@ use Rattle.os_code.specs.Outcomes as machine
 use Rattle.os_code.specs.declared.parts.Parts.{Parts}
 use Rattle.lowering_relation.proofs.MainLaws.{main_ends_only_so}
 use Rattle.lowering_relation.proofs.TaskLaws.{ends_only_so}
-use Rattle.lowering_relation.specs.Laws.{StandsFor}
+use Rattle.lowering_relation.specs.Laws.{CodeStandsFor}
 
 -- what an activation reads, as the machine and the meaning count it
 same_count : (claims : List Claim) → sum_by (λ (claim : Claim). claim.horizon) (filter (λ (claim : Claim). not claim.write) claims) ≡ read_horizons claims
@@ -26,13 +26,13 @@ same_count (c ∷ claims) = by_case c.write (same_count claims)
     by_case false more =
         sum_by-append (λ (claim : Claim). claim.horizon) (c ∷ []) (filter (λ (claim : Claim). not claim.write) claims) ∙ omega (arith, more)
 
-module _ (code : Parts) (p : tree.ProgramTree) (stands : StandsFor code p) where
+module _ (code : Parts) (p : tree.ProgramTree) (stands : CodeStandsFor code p) where
   pub runs_bodies : RunsBodies code p
   runs_bodies a inputs budget fits enough =
       let t = tasks_end code a inputs budget stands.valid fits in
-      ends_only_so p code a inputs budget stands fits (omega (arith, enough, same_count a.claims)) (machine.task_outcome code a inputs budget) t.steps t.ends
+      ends_only_so p code a inputs budget stands fits (omega (arith, enough, same_count a.claims)) (machine.code_outcome code a inputs budget) t.steps t.ends
 
   pub runs_control : RunsControl code p
   runs_control input_len budget =
       let m = main_ends code input_len budget stands.valid in
-      main_ends_only_so p code input_len budget stands (machine.control code input_len budget) m.steps m.ends
+      main_ends_only_so p code input_len budget stands (machine.main_control code input_len budget) m.steps m.ends

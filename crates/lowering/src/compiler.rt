@@ -7,7 +7,7 @@ ghost use Rattle.lowering.specs.declared.compiler.LowerError.TheVariants as erro
 ghost use Rattle.os_ast.specs.Spelling.{spell};
 ghost use Rattle.os_ast.specs.Views.{program_tree};
 ghost use Rattle.os_code.specs.Codes.{parts_of};
-ghost use Rattle.lowering_relation.specs.Laws.{StandsFor};
+ghost use Rattle.lowering_relation.specs.Laws.{CodeStandsFor};
 ghost use Rattle.lowering_relation.specs.Names.{told_at};
 ghost use Rattle.lowering_relation.specs.Tasks.{program_tasks};
 ghost use Rattle.lowering_relation.specs.Tiling.{IsTiled};
@@ -42,7 +42,7 @@ impl From<Memory> for LowerError {
 /// one for each task, in the order of the text; the k-th site is that of the k-th task. It takes one walk over the program
 /// and a second pass over the code, and memory for no more than the code and its labels.
 pub fn lower(alloc: Global, checked: &Checked) -> Result<Code, LowerError>
-    ensures stands { IfOk result (λ code. StandsFor (parts_of code) (program_tree checked.now.program)) }
+    ensures stands { IfOk result (λ code. CodeStandsFor (parts_of code) (program_tree checked.now.program)) }
     // what it does
     ensures bodies { IfOk result (λ code. RunsBodies (parts_of code) (program_tree checked.now.program)) }
     ensures control { IfOk result (λ code. RunsControl (parts_of code) (program_tree checked.now.program)) }
@@ -58,7 +58,7 @@ pub fn lower(alloc: Global, checked: &Checked) -> Result<Code, LowerError>
 
 /// The parts of the code of a program: they stand for it, and its units lie one behind another.
 fn lower_parts(alloc: Global, checked: &Checked) -> Result<Parts, Memory>
-    ensures stands { IfOk result (λ parts. StandsFor parts (program_tree checked.now.program)) }
+    ensures stands { IfOk result (λ parts. CodeStandsFor parts (program_tree checked.now.program)) }
     ensures tiled { IfOk result (λ parts. IsTiled parts (program_tree checked.now.program)) }
     ensures few { IfOk result (λ parts. length parts.instrs ≤ 8 * length (spell (program_tree checked.now.program))) }
 {

@@ -19,7 +19,7 @@ use os_ast::{Change, Clause, Expr, Head, Stmt};
 use os_code::Instr;
 use os_io::{List, Memory};
 
-/// A statement.
+/// Emits a statement. Behind it the code goes on at `next`, or at the next place where that is none.
 #[cycle(statements)]
 #[tactic(auto, using(crate::proofs::Rules::statements))]
 pub(crate) fn emit_stmt(

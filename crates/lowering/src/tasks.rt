@@ -113,7 +113,7 @@ fn add_task(
     })
 }
 
-/// The unit of a task that captures so many scalars.
+/// The unit of a task that captures `captured` scalars.
 fn add_unit(made: &mut Units, told: &Told<'_>, captured: usize, body: &Stmt) -> Result<(), Memory>
     ensures { OnOk result (made.new ≡ with_unit (task_code (told_at told.now.names.now) (stmt_tree body.now)) captured
         (capped (captured + stmt_slots owner.OfTask (size_by (told_at told.now.names.now)) (stmt_tree body.now))) made.old) }

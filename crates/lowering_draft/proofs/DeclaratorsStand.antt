@@ -8,7 +8,7 @@ use Rattle.lowering_draft.proofs.KeptExpressions.{and_then_kept, change_kept, ex
 use Rattle.lowering_draft.specs.Draft.{Becomes, with_instr, with_instrs}
 use Rattle.lowering_draft.specs.Emission.Declarators.{cleared_code, declarators_code, declared_code, scalar_code, start_code, window_code}
 use Rattle.lowering_draft.specs.Emission.Expressions.{expr_code}
-use Rattle.lowering_draft.specs.Given.{IsGiven}
+use Rattle.lowering_draft.specs.Given.{HasLeveledExprs}
 use Rattle.lowering_draft.specs.declared.draft.Draft.{Draft}
 use Rattle.os_ast.specs.FreeNames.{expr_names}
 use Rattle.os_ast.specs.Leveled as leveled
@@ -85,7 +85,7 @@ module _ {code : Parts} {place_of : ℕ → ℕ} (tells : ℕ → Resolved) wher
         stands_instr made (Window slot i.mark.line) refl b,
       )
 
-  declared_stands : (w : What) (x : tree.DeclaratorTree) → IsGiven x → (d : Draft) → Becomes (declared_code tells w x d) code place_of
+  declared_stands : (w : What) (x : tree.DeclaratorTree) → HasLeveledExprs x → (d : Draft) → Becomes (declared_code tells w x d) code place_of
       → HasDeclared code tells w x (length d.instrs) (length (declared_code tells w x d).instrs)
   declared_stands (what.Scalar slot) x is d b = scalar_stands x.name.id slot x.first is.first d b
   declared_stands (what.Array first size) x is d b = stands_instr d (Zero first size) refl b
@@ -96,7 +96,7 @@ module _ {code : Parts} {place_of : ℕ → ℕ} (tells : ℕ → Resolved) wher
   declared_stands (what.Element item) x is d b = refl
   declared_stands (what.View item) x is d b = refl
 
-  pub declarators_stand : (ds : List tree.DeclaratorTree) → AreAll IsGiven ds → (d : Draft) → Becomes (declarators_code tells ds d) code place_of
+  pub declarators_stand : (ds : List tree.DeclaratorTree) → AreAll HasLeveledExprs ds → (d : Draft) → Becomes (declarators_code tells ds d) code place_of
       → HasDeclarators code tells ds (length d.instrs) (length (declarators_code tells ds d).instrs)
   declarators_stand [] are d b = refl
   declarators_stand (x ∷ ds) (leveled.cons is are) d b =

@@ -6,11 +6,11 @@ use Rattle.std.specs.Int.{w32, cast_signed}
 use Rattle.std.specs.Prelude.{ℤ, pos}
 use Rattle.std.specs.Result.{result_ok}
 use Rattle.c_int.specs.Machine.{unary_for}
-use Rattle.c_int.specs.Operators as c_int
+use Rattle.c_int.specs.Operators.{unary_value}
 use Rattle.c_int.specs.declared.operators.Unary.TheVariants as int_unary
 use Rattle.c_int.specs.declared.trap.OperatorTrap.{OperatorTrap}
 use Rattle.cddf_meaning.specs.Answers.{Answer, at_line, over}
-use Rattle.cddf_meaning.specs.Operators.{operator_of_one, unary_value}
+use Rattle.cddf_meaning.specs.Operators.{operator_of_one, unary_answer}
 use Rattle.cddf_meaning.specs.ExpressionTypes.{type_of_two}
 use Rattle.lowering_draft.proofs.Becoming.{back, before_place, instr_stands, placed_here, slice_get-last}
 use Rattle.lowering_draft.proofs.Keeping.{Keeps, KeepsLabels, kept, keeps_instr, keeps_instrs, then_kept}
@@ -297,12 +297,12 @@ module _ {code : Parts} {place_of : ℕ → ℕ} where
       subst (HasUnary code op line unsigned e has (length d.instrs)) (sym (length-instr (f d) i))
       (operated (length (f d).instrs) (pf.stands d (back (keeps_instr (kept (f d)) i) b)) (instr_stands (f d) i b))
 
-  number_unary : (op : Unary) (line n : ℕ) → n < 2 ^ 31 → (w : Option ℤ) → result_ok (c_int.unary_value (operator_of_one op) (literal n)) ≡ w
+  number_unary : (op : Unary) (line n : ℕ) → n < 2 ^ 31 → (w : Option ℤ) → result_ok (unary_value (operator_of_one op) (literal n)) ≡ w
       → (has : (from to : ℕ) → Type 0) → {f : Emission} → IsPart code place_of f has → (d : Draft)
       → Becomes (with_unary w op line false f d) code place_of → HasUnary code op line false (tree.Number n) has (length d.instrs) (length (with_unary w op line false f d).instrs)
   number_unary op line n small (Some v) is has {f} pf d b =
-      let gives : unary_value op line false (pos n) ≡ Ok v =
-      given line (c_int.unary_value (operator_of_one op) (pos n)) v (ap (λ a. result_ok (c_int.unary_value (operator_of_one op) a)) (sym (number_small n small)) ∙ is) in
+      let gives : unary_answer op line false (pos n) ≡ Ok v =
+      given line (unary_value (operator_of_one op) (pos n)) v (ap (λ a. result_ok (unary_value (operator_of_one op) a)) (sym (number_small n small)) ∙ is) in
       subst (HasUnary code op line false (tree.Number n) has (length d.instrs)) (sym (length-instr d (Push v))) (worked_out_code refl gives (instr_stands d (Push v) b))
   number_unary op line n small None is has {f} pf d b = operated_unary op line false (tree.Number n) pf d b
 

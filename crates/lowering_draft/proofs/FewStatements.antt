@@ -32,7 +32,7 @@ use Rattle.os_lexer.specs.declared.token.Kind.TheVariants as kind
 use Rattle.os_lexer.specs.declared.token.Punct.TheVariants as puncts
 use Rattle.lowering_relation.specs.Tasks.{TaskTree, all_tasks_of, tasks_of}
 
--- The tokens of a part pay for its code and for the units of its tasks, and so many more instructions are there.
+-- The tokens of a part pay for its code and for the units of its tasks, but for at most `more` instructions.
 abbrev PartPays : StmtPart → Printer → (units more : ℕ) → Type 0
 PartPays f p units more = (x : Exits) (next : Option Label) (d : Draft) (rest : List Symbol) →
     length (f x next d).instrs + units + 8 * length rest ≤ length d.instrs + 8 * length (p rest) + more
@@ -61,7 +61,7 @@ module _ (tells : ℕ → Resolved) where
   test_pays None end d rest = omega arith
   test_pays (Some e) end d rest = omega (arith, condition_pays tells e end d rest)
 
-  -- A loop, by the tokens of its test, its step and its body; its unit, its test and its jump are three more.
+  -- A loop, by the tokens of its test, its step and its body; its turn, its test and its jump are three more.
   loop_few : (test : Option tree.ExprTree) (step : Option tree.ChangeTree) (x : Exits) (end : Label) (a : StmtPart) (p : Printer) (units : ℕ) → PartPays a p units 0
       → (d : Draft) (rest between behind : List Symbol)
       → length (loop_code tells test step x end a d).instrs + units + 8 * (length rest + length between + length behind)

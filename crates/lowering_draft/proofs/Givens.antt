@@ -1,10 +1,10 @@
 -- The declarators and clauses of a leveled statement have leveled expressions in them.
 use Rattle.std.proofs.Common.{◌≡◌, ◌∙◌, List, [], ◌∷◌, ◌++◌, map, Option, Some, ap, subst}
 use Rattle.std.proofs.lemmas.Option.{none-some, same_Some}
-use Rattle.lowering_draft.specs.Given.{IsGiven, IsItem, joined, private_name}
+use Rattle.lowering_draft.specs.Given.{HasLeveledExprs, IsItem, joined, private_name}
 use Rattle.os_ast.specs.Leveled as leveled
 use Rattle.os_ast.specs.Leveled.{AreAll, AreClauses, AreListed, IsClause, IsClauseItem, IsClauseKind, IsDeclarator, IsExpr, IsHeadDeclarator, IsIndex, IsOptional}
-use Rattle.os_ast.specs.ClauseParts.{Item, Private, parts, parts_of}
+use Rattle.os_ast.specs.ClauseParts.{Item, Private, parts, clause_parts}
 use Rattle.os_ast.specs.Trees as tree
 use Rattle.os_ast.specs.declared.expr.Name.{Name}
 use Rattle.os_ast.specs.declared.names.Direction.{Direction}
@@ -18,7 +18,7 @@ present_is {P} (leveled.present {x = y} p) x is = subst P (same_Some y x is) p
 index_value : {i : tree.IndexTree} → IsIndex i → IsExpr i.value
 index_value (leveled.index is) = is
 
-declarator_given : {d : tree.DeclaratorTree} → IsDeclarator d → IsGiven d
+declarator_given : {d : tree.DeclaratorTree} → IsDeclarator d → HasLeveledExprs d
 declarator_given (leveled.scalar first) = record { size = λ i is. absurd (none-some i is); first = λ e is. present_is first e is }
 declarator_given (leveled.sized {n} {size} is_index) = record {
   size = λ i is. subst (λ (s : tree.IndexTree). IsExpr s.value) (same_Some size i is) (index_value is_index);
@@ -26,7 +26,7 @@ declarator_given (leveled.sized {n} {size} is_index) = record {
 }
 declarator_given (leveled.stream size) = record { size = λ i is. index_value (present_is size i is); first = λ e is. absurd (none-some e is) }
 
-head_given : {d : tree.DeclaratorTree} → IsHeadDeclarator d → IsGiven d
+head_given : {d : tree.DeclaratorTree} → IsHeadDeclarator d → HasLeveledExprs d
 head_given (leveled.head first) = record { size = λ i is. absurd (none-some i is); first = λ e is. present_is first e is }
 
 module _ {A : Type 0} where
@@ -41,10 +41,10 @@ module _ {A : Type 0} where
   append_all leveled.nil are = are
   append_all (leveled.cons is more) are = leveled.cons is (append_all more are)
 
-pub declarators_given : {ds : List tree.DeclaratorTree} → AreListed IsDeclarator ds → AreAll IsGiven ds
+pub declarators_given : {ds : List tree.DeclaratorTree} → AreListed IsDeclarator ds → AreAll HasLeveledExprs ds
 declarators_given are = map_listed (λ d is. declarator_given is) are
 
-pub heads_given : {ds : List tree.DeclaratorTree} → AreListed IsHeadDeclarator ds → AreAll IsGiven ds
+pub heads_given : {ds : List tree.DeclaratorTree} → AreListed IsHeadDeclarator ds → AreAll HasLeveledExprs ds
 heads_given are = map_listed (λ d is. head_given is) are
 
 item_given : (d : Direction) {i : tree.ClauseItemTree} → IsClauseItem i → IsItem (Item d i)
@@ -62,7 +62,7 @@ privates_given : (ns : List Name) → AreAll IsItem (map Private ns)
 privates_given [] = leveled.nil
 privates_given (n ∷ ns) = leveled.cons private_name (privates_given ns)
 
-kind_given : {k : tree.ClauseKindTree} → IsClauseKind k → AreAll IsItem (parts_of k)
+kind_given : {k : tree.ClauseKindTree} → IsClauseKind k → AreAll IsItem (clause_parts k)
 kind_given (leveled.input (leveled.listed is are)) = leveled.cons (item_given direction.Reads is) (items_given direction.Reads are)
 kind_given (leveled.output (leveled.listed is are)) = leveled.cons (item_given direction.Writes is) (items_given direction.Writes are)
 kind_given (leveled.firstprivate {n} {ns}) = leveled.cons private_name (privates_given ns)

@@ -16,7 +16,7 @@ use Rattle.os_ast.specs.declared.names.Resolved.{Resolved}
 use Rattle.os_code.specs.declared.instr.Instr.{Instr}
 use Rattle.os_code.specs.declared.instr.Instr.TheVariants.{End, Push, Return}
 use Rattle.os_code.specs.declared.site.Site.{Site}
-use Rattle.os_code.specs.declared.unit.Unit.{Unit as CodeUnit}
+use Rattle.os_code.specs.declared.unit.CodeUnit.{CodeUnit}
 use Rattle.lowering_relation.specs.Tasks.{TaskTree}
 
 -- what was made is there in what is made later

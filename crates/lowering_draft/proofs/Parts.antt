@@ -3,7 +3,7 @@ use Rattle.std.proofs.Common.{◌≡◌, ℕ, ◌+◌, ◌<◌, List, [], ◌∷
 use Rattle.std.proofs.Math.Seq.{drop-cons}
 use Rattle.lowering_draft.specs.Emission.Tasks.{item_code, items_code}
 use Rattle.lowering_draft.specs.declared.draft.Draft.{Draft}
-use Rattle.os_ast.specs.ClauseParts.{ClausePart, Item, Private, parts, parts_of}
+use Rattle.os_ast.specs.ClauseParts.{ClausePart, Item, Private, parts, clause_parts}
 use Rattle.os_ast.specs.Views.{clause_kind_tree, clause_tree}
 use Rattle.os_ast.specs.declared.names.Resolved.{Resolved}
 use Rattle.os_ast.specs.declared.pragma.Clause.{Clause}
@@ -14,5 +14,5 @@ items_code-append tells (Item direction i ∷ ps) qs d = items_code-append tells
 items_code-append tells (Private n ∷ ps) qs d = items_code-append tells ps qs d
 
 pub parts-drop : (cs : List Clause) (i : ℕ) (c : Clause) → i < length cs → c ≡ get_or cs i c →
-    parts (map clause_tree (drop i cs)) ≡ parts_of (clause_kind_tree c.kind) ++ parts (map clause_tree (drop (i + 1) cs))
+    parts (map clause_tree (drop i cs)) ≡ clause_parts (clause_kind_tree c.kind) ++ parts (map clause_tree (drop (i + 1) cs))
 parts-drop cs i c h is = rw (drop-cons cs i c h, ← is, add-one)

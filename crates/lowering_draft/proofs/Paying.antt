@@ -14,7 +14,7 @@ use Rattle.c_int.specs.declared.operators.Binary as int_binary
 use Rattle.lowering_relation.specs.Expressions.{operation, operation_of}
 use Rattle.lowering_relation.specs.Names.{aiming, reading}
 
--- Between what follows and the whole, each token pays 8 instructions, and so many more are there.
+-- Between what follows and the whole, each token pays 8 instructions, and at most `more` beyond these are there.
 abbrev pub Pays : Emission → Printer → (more : ℕ) → Type 0
 Pays f p more = (d : Draft) (rest : List Symbol) → length (f d).instrs + 8 * length rest ≤ length d.instrs + 8 * length (p rest) + more
 

@@ -16,7 +16,7 @@ use Rattle.lowering_relation.proofs.AllUnits.{Standing, all_laid}
 use Rattle.lowering_relation.proofs.ValidHeights.{frames, heights}
 use Rattle.lowering_relation.proofs.ValidRegions.{regions, targets}
 use Rattle.lowering_relation.proofs.ValidSites.{sites}
-use Rattle.lowering_relation.specs.Laws.{StandingIsValid, StandsFor}
+use Rattle.lowering_relation.specs.Laws.{StandingIsValid, CodeStandsFor}
 use Rattle.lowering_relation.specs.Names.{told_at}
 use Rattle.lowering_relation.specs.Programs.{HasProgram}
 use Rattle.lowering_relation.specs.Tiling.{IsTiled}
@@ -80,7 +80,7 @@ module _ (checked : Checked) (made : Units) (parts : Parts)
       (program_slots p checked.placed checked.lawful checked.few))
 
   -- it has all that is asked of a code
-  pub stands_for : StandsFor parts (program_tree checked.program)
+  pub stands_for : CodeStandsFor parts (program_tree checked.program)
   stands_for = record {
     leveled = checked.leveled;
     placed = checked.placed;

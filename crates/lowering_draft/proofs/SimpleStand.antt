@@ -13,7 +13,7 @@ use Rattle.lowering_draft.specs.Draft.{Becomes, with_instr, with_places, with_sp
 use Rattle.lowering_draft.specs.Emission.Declarators.{declarators_code}
 use Rattle.lowering_draft.specs.Emission.Expressions.{expr_code}
 use Rattle.lowering_draft.specs.Emission.Tasks.{items_code, tick_code}
-use Rattle.lowering_draft.specs.Given.{IsGiven}
+use Rattle.lowering_draft.specs.Given.{HasLeveledExprs}
 use Rattle.lowering_draft.specs.Going.{IsLeave, ends, returns}
 use Rattle.lowering_draft.specs.declared.draft.Draft.{Draft}
 use Rattle.os_ast.specs.Leveled as leveled
@@ -28,7 +28,7 @@ use Rattle.os_code.specs.declared.instr.Instr.TheVariants.{Drop, Spawn}
 use Rattle.os_code.specs.declared.parts.Parts.{Parts}
 use Rattle.lowering_relation.specs.Expressions.{Stands}
 use Rattle.lowering_relation.specs.Statements.{Body}
-use Rattle.lowering_relation.specs.Tasks.{number_of}
+use Rattle.lowering_relation.specs.Tasks.{task_index}
 
 plain-leave : (place_of : ℕ → ℕ) {i : Instr} → IsLeave i → with_places place_of i ≡ i
 plain-leave place_of returns = refl
@@ -43,7 +43,7 @@ spawn_stands d b = (
 )
 
 module _ (code : Parts) (place_of : ℕ → ℕ) (b : Body) where
-  pub declare_stands : (ty : Ty) (ds : List tree.DeclaratorTree) → AreAll IsGiven ds → Goes code place_of b (tree.StmtTree.Declare ty ds)
+  pub declare_stands : (ty : Ty) (ds : List tree.DeclaratorTree) → AreAll HasLeveledExprs ds → Goes code place_of b (tree.StmtTree.Declare ty ds)
   declare_stands ty ds given x leaves next d are becomes =
       jump_stands code place_of (StmtAt code place_of b (tree.StmtTree.Declare ty ds) x) (length d.instrs) next (declarators_code b.tells ds d)
       (λ made. (declarators_stand b.tells ds given d made, refl)) becomes
@@ -72,7 +72,7 @@ module _ (code : Parts) (place_of : ℕ → ℕ) (b : Body) where
   pub task_stands : (m : Mark) (cs : List tree.ClauseTree) → AreClauses cs → (a : tree.StmtTree) → Goes code place_of b (tree.Task m cs a)
   task_stands m cs is a x leaves next d are becomes =
       let made = items_code b.tells (parts cs) d in
-      let number : number_of b.tasks m ≡ Some made.spawned =
+      let number : task_index b.tasks m ≡ Some made.spawned =
       are 0 (record { mark = m; parts = parts cs; body = a }) refl ∙ ap Some (omega (arith, items_spawned b.tells (parts cs) d)) in
       jump_stands code place_of (StmtAt code place_of b (tree.Task m cs a) x) (length d.instrs) next (with_spawn made)
       (λ spawned. (

@@ -15,7 +15,7 @@ use Rattle.os_ast.specs.Trees as tree
 use Rattle.os_ast.specs.Violations.{captured_by_tasks, names, violations}
 use Rattle.os_ast.specs.declared.names.Owner.TheVariants as owner
 use Rattle.os_ast.specs.declared.names.Resolved.{Resolved}
-use Rattle.os_code.specs.declared.unit.Unit.{Unit as CodeUnit}
+use Rattle.os_code.specs.declared.unit.CodeUnit.{CodeUnit}
 use Rattle.lowering_relation.specs.Names.{told_at}
 use Rattle.lowering_relation.specs.Tasks.{TaskTree, program_tasks}
 use Rattle.window_check_laws.proofs.NameCounts.{names_few}

@@ -221,7 +221,7 @@ closed_spawned : (next : Option Label) (end : Label) (d : Draft) → (closed nex
 closed_spawned None end d = refl
 closed_spawned (Some next) end d = refl
 
--- A part spawns so many tasks, wherever it is left and goes on.
+-- A part spawns `n` tasks, wherever it is left and goes on.
 abbrev pub Spawns : StmtPart → ℕ → Type 0
 Spawns f n = (x : Exits) (next : Option Label) (d : Draft) → (f x next d).spawned ≡ d.spawned + n
 

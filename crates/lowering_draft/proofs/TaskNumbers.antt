@@ -22,7 +22,7 @@ use Rattle.os_lexer.specs.declared.token.Key.TheVariants as keys
 use Rattle.os_lexer.specs.declared.token.Kind.{Kind}
 use Rattle.os_lexer.specs.declared.token.Kind.TheVariants as kind
 use Rattle.os_lexer.specs.declared.token.Punct.TheVariants as puncts
-use Rattle.lowering_relation.specs.Tasks.{TaskTree, tasks_of, all_tasks_of, program_tasks, number_of}
+use Rattle.lowering_relation.specs.Tasks.{TaskTree, tasks_of, all_tasks_of, program_tasks, task_index}
 
 -- the PragmaStarts of these tasks stand among symbols, in order
 data Among : List TaskTree → List Symbol → Type 0 where
@@ -191,7 +191,7 @@ get_there [] k t is = refl
 get_there (u ∷ ts) zero t is = cc
 get_there (u ∷ ts) (suc k) t is = get_there ts k t is
 
-numbered : (lo : ℕ) (ts : List TaskTree) (k : ℕ) (t : TaskTree) → Ascend lo ts → slice_get ts k ≡ Some t → number_of ts t.mark ≡ Some k
+numbered : (lo : ℕ) (ts : List TaskTree) (k : ℕ) (t : TaskTree) → Ascend lo ts → slice_get ts k ≡ Some t → task_index ts t.mark ≡ Some k
 numbered lo ts k t a is =
     let within : k < length ts = slice_get_within ts k t is in
     let here : get_or ts k t ≡ t = get_there ts k t is in
@@ -204,6 +204,6 @@ numbered lo ts k t a is =
 
 -- The k-th task of a program has the number k.
 pub program_numbered : (p : tree.ProgramTree) → HasPlaces p → (k : ℕ) (t : TaskTree) → slice_get (program_tasks p) k ≡ Some t →
-    number_of (program_tasks p) t.mark ≡ Some k
+    task_index (program_tasks p) t.mark ≡ Some k
 program_numbered p places k t is =
     numbered 0 (program_tasks p) k t (ascending (program_tasks p) (symbols p) 0 (λ i m has. omega (arith, places i m has)) (among_program p)) is

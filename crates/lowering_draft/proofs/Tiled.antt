@@ -12,7 +12,7 @@ use Rattle.os_ast.specs.Names.{main_id}
 use Rattle.os_ast.specs.Trees as tree
 use Rattle.os_ast.specs.declared.names.Resolved.{Resolved}
 use Rattle.os_code.specs.declared.site.Site.{Site}
-use Rattle.os_code.specs.declared.unit.Unit.{Unit as CodeUnit}
+use Rattle.os_code.specs.declared.unit.CodeUnit.{CodeUnit}
 use Rattle.lowering_relation.specs.Tasks.{TaskTree, program_tasks}
 use Rattle.lowering_relation.specs.Tiling.{IsTiled, Tile}
 use Rattle.window_check_laws.specs.Globals.{count_functions}

@@ -6,8 +6,8 @@ use Rattle.os_ast.specs.Trees as tree
 use Rattle.os_ast.specs.declared.expr.Name.{Name}
 use Rattle.os_ast.specs.declared.names.Direction.{Direction}
 
--- the size and the first value of a declarator
-pub record IsGiven (d : tree.DeclaratorTree) : Type 0 where
+-- the size and the first value of a declarator are leveled
+pub record HasLeveledExprs (d : tree.DeclaratorTree) : Type 0 where
   pub size : (i : tree.IndexTree) → d.size ≡ Some i → IsExpr i.value
   pub first : (e : tree.ExprTree) → d.first ≡ Some e → IsExpr e
 

@@ -5,7 +5,7 @@ use Rattle.os_code.specs.declared.instr.Instr.{Instr}
 use Rattle.os_code.specs.declared.instr.Instr.TheVariants.{End, Return}
 use Rattle.os_code.specs.declared.parts.Parts.{Parts}
 use Rattle.lowering_relation.specs.Statements.{Ends}
-use Rattle.lowering_relation.specs.Tasks.{TaskTree, number_of}
+use Rattle.lowering_relation.specs.Tasks.{TaskTree, task_index}
 
 -- Behind a part the code goes on at the next place, or at that of a label.
 abbrev pub GoesOn : Parts → (ℕ → ℕ) → Option Label → (part : (next from to : ℕ) → Type 0) → (from to : ℕ) → Type 0
@@ -19,4 +19,4 @@ pub data IsLeave : Instr → Type 0 where
 
 -- Tasks that stand one after another among all tasks, from the one with this number on.
 abbrev pub AreNumbered : (all : List TaskTree) → (first : ℕ) → List TaskTree → Type 0
-AreNumbered all first tasks = (k : ℕ) (t : TaskTree) → slice_get tasks k ≡ Some t → number_of all t.mark ≡ Some (first + k)
+AreNumbered all first tasks = (k : ℕ) (t : TaskTree) → slice_get tasks k ≡ Some t → task_index all t.mark ≡ Some (first + k)

@@ -7,7 +7,7 @@ use Rattle.lowering_draft.specs.Emission.Declarators.{declarators_code}
 use Rattle.lowering_draft.specs.Emission.Expressions.{Emission, expr_code}
 use Rattle.lowering_draft.specs.Emission.Statements.{StmtPart, block_code, stmt_code}
 use Rattle.lowering_draft.specs.Emission.Tasks.{items_code}
-use Rattle.lowering_draft.specs.Given.{IsGiven, IsItem}
+use Rattle.lowering_draft.specs.Given.{HasLeveledExprs, IsItem}
 use Rattle.lowering_draft.specs.Going.{AreNumbered, GoesOn, IsLeave}
 use Rattle.lowering_draft.specs.declared.draft.Draft.{Draft}
 use Rattle.lowering_draft.specs.declared.draft.Label.{Label}
@@ -40,7 +40,7 @@ ChangesStand = (code : Parts) (place_of : ℕ → ℕ) (tells : ℕ → Resolved
     Makes code place_of (change_code tells c) (HasChange code tells c)
 
 abbrev pub DeclaratorsStand : Type 0
-DeclaratorsStand = (code : Parts) (place_of : ℕ → ℕ) (tells : ℕ → Resolved) (ds : List tree.DeclaratorTree) → AreAll IsGiven ds →
+DeclaratorsStand = (code : Parts) (place_of : ℕ → ℕ) (tells : ℕ → Resolved) (ds : List tree.DeclaratorTree) → AreAll HasLeveledExprs ds →
     Makes code place_of (declarators_code tells ds) (HasDeclarators code tells ds)
 
 abbrev pub ItemsStand : Type 0

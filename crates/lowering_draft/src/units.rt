@@ -2,7 +2,7 @@ ghost use Rattle.std.specs.Prelude.{◌≡◌, OnOk};
 ghost use Rattle.lowering_draft.specs.Emission.Units.{no_units, unit_from};
 
 use crate::draft::Draft;
-use os_code::{Site, Unit};
+use os_code::{CodeUnit, Site};
 use os_io::{List, Memory};
 use std::alloc::Global;
 
@@ -10,7 +10,7 @@ use std::alloc::Global;
 #[derive(Debug, Drop)]
 pub struct Units {
     pub draft: Draft,
-    pub units: List<Unit>,
+    pub units: List<CodeUnit>,
     pub sites: List<Site>,
     /// The number of the unit of `main`, once it is there.
     pub main: u32,
@@ -38,7 +38,7 @@ impl Units {
             |_| Memory,
         )?;
         let start = u32::try_from(start).map_err(|_| Memory)?;
-        self.units.push(Unit {
+        self.units.push(CodeUnit {
             start,
             args,
             slots,

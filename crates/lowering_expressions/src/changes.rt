@@ -34,7 +34,7 @@ pub fn emit_change(draft: &mut Draft, told: &Told<'_>, change: &Change) -> Resul
     }
 }
 
-/// `target = value`. Where the value can neither trap nor take a unit, the store alone checks the index.
+/// `target = value`. Where the value can neither trap nor take a turn, the store alone checks the index.
 fn emit_plain(
     draft: &mut Draft,
     told: &Told<'_>,
@@ -108,7 +108,7 @@ fn emit_aim(draft: &mut Draft, told: &Told<'_>, target: &Target) -> Result<(), M
     }
 }
 
-/// The same, and the old value behind it. It tells whether this is of the type `unsigned`.
+/// Emits the index, if there is one, and then the target's old value, whose reading checks the index. It tells whether the value is of the type `unsigned`.
 fn emit_fetch(draft: &mut Draft, told: &Told<'_>, target: &Target) -> Result<bool, Memory>
     ensures { IfOk result (λ unsigned. (unsigned ≡ target_by (told_at told.now.names.now) (target_tree target.now))
         × (draft.new ≡ aim_code (told_at told.now.names.now) true (target_tree target.now) draft.old)) }

@@ -17,7 +17,7 @@ use Rattle.os_ast.specs.Trees as tree
 use Rattle.os_ast.specs.Violations.{violations, names, captures, captured_by_tasks, has_main, streams}
 use Rattle.os_code.specs.Parts.{Function, kind_at, unit_at}
 use Rattle.os_code.specs.declared.parts.Parts.{Parts}
-use Rattle.os_code.specs.declared.unit.Unit.{Unit as CodeUnit}
+use Rattle.os_code.specs.declared.unit.CodeUnit.{CodeUnit}
 use Rattle.lowering_relation.specs.Names.{told_at}
 use Rattle.lowering_relation.specs.Programs.{in_main, HasMain, HasUnit, HasTask, HasProgram}
 use Rattle.lowering_relation.specs.Tasks.{program_tasks, all_tasks_of}

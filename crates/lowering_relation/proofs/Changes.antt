@@ -3,7 +3,7 @@ use Rattle.std.proofs.Common.{◌≡◌, ℕ, ◌+◌, ◌≤◌, Bool, true, fa
 use Rattle.cddf_meaning.specs.Answers.{Answer, and_then, Left, left, with_turns}
 use Rattle.cddf_meaning.specs.File.{variable, type_in}
 use Rattle.cddf_meaning.specs.Flow.{Ran, with_value, goes_on}
-use Rattle.cddf_meaning.specs.Operators.{binary_value, step_operator}
+use Rattle.cddf_meaning.specs.Operators.{binary_answer, step_operator}
 use Rattle.cddf_meaning.specs.Run.{assigned, old_value, after_store, changed, target_type, run_change}
 use Rattle.cddf_meaning.specs.BodyState.{BodyState, stored, stored_at}
 use Rattle.cddf_meaning.specs.Value.{scalar_value, elements, checked, value}
@@ -163,7 +163,7 @@ module _ (c : Context) (callers : List Frame) (leaves : Instr) (total : ℕ) (s 
   operates_assign (assign_of.With op) line u v p q old n below h = operates c.code callers op line u v p q old n.value below m n.turns h
 
   stepped : (op : _) (line : ℕ) (u : Bool) (p q : ℕ) (x : ℤ) (below : List ℤ) (turns : ℕ) → HasStepped c.code op line u p q →
-      Meets c.code (at callers p (x ∷ below) m turns) (pushed callers q below m) (with_turns turns (binary_value op line u false x (pos 1)))
+      Meets c.code (at callers p (x ∷ below) m turns) (pushed callers q below m) (with_turns turns (binary_answer op line u false x (pos 1)))
   stepped op line u p q x below turns h = meets_from c.code (push c.code callers (pos 1) p (x ∷ below) m turns h.0) (operates c.code callers op line u false (p + 1) q x (pos 1) below m turns h.1)
 
   pub change_does : (x : tree.ChangeTree) (broke continued from to : ℕ) (stack : List ℤ) (turns : ℕ) (within : List Entry → Type 0) → Agree c (change_notes s x) → HasChange c.code (tells c) x from to →
@@ -183,12 +183,12 @@ module _ (c : Context) (callers : List Frame) (leaves : Instr) (total : ℕ) (s 
   change_does (tree.Set (tree.Element n open_mark i) assign_of.Plain mark e) broke continued from to stack turns within agree (set_unchecked mid end quiet has_i has_e store) =
       unchecked_does n open_mark mark i e broke continued from mid end stack turns within agree quiet has_i has_e store
   change_does (tree.After t d mark) broke continued from to stack turns within agree (after h) =
-      changed_does t true (λ old s2 t2. with_turns t2 (binary_value (step_operator d) mark.line (target_type c.file s2 t) false old (pos 1))) (HasStepped c.code (step_operator d) mark.line (target_by (tells c) t))
+      changed_does t true (λ old s2 t2. with_turns t2 (binary_answer (step_operator d) mark.line (target_type c.file s2 t) false old (pos 1))) (HasStepped c.code (step_operator d) mark.line (target_by (tells c) t))
       broke continued from to stack turns within agree
       (λ x below t2 p q has. stepped (step_operator d) mark.line (target_type c.file st t) p q x below t2
       (subst (λ b. HasStepped c.code (step_operator d) mark.line b p q) (target_told c s es st m.slots ready.scope ready.aligned t agree) has)) h
   change_does (tree.Before t d mark) broke continued from to stack turns within agree (before h) =
-      changed_does t true (λ old s2 t2. with_turns t2 (binary_value (step_operator d) mark.line (target_type c.file s2 t) false old (pos 1))) (HasStepped c.code (step_operator d) mark.line (target_by (tells c) t))
+      changed_does t true (λ old s2 t2. with_turns t2 (binary_answer (step_operator d) mark.line (target_type c.file s2 t) false old (pos 1))) (HasStepped c.code (step_operator d) mark.line (target_by (tells c) t))
       broke continued from to stack turns within agree
       (λ x below t2 p q has. stepped (step_operator d) mark.line (target_type c.file st t) p q x below t2
       (subst (λ b. HasStepped c.code (step_operator d) mark.line b p q) (target_told c s es st m.slots ready.scope ready.aligned t agree) has)) h

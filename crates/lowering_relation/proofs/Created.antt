@@ -2,15 +2,15 @@
 use Rattle.std.proofs.Common.{◌≡◌, ℕ, ◌+◌, ◌<◌, ◌≤◌, Bool, true, false, if◌then◌else◌, List, [], ◌∷◌, set, refl, sym, ap, ◌∙◌, arith}
 use Rattle.std.proofs.lemmas.List.Sums.{sum_by-append, sum_by-cons}
 use Rattle.cddf_meaning.proofs.Sums.{skip-sum}
-use Rattle.cddf_meaning.specs.Claims.{since_read, with_skip, with_skips, moves_behind, horizons, all_horizons}
+use Rattle.cddf_meaning.specs.Claims.{since_read, with_skip, with_skips, moves_behind, all_horizons}
 use Rattle.cddf_meaning.specs.Skips.{skips_of}
 use Rattle.cddf_meaning.specs.declared.cursor_move.Move.{Move}
 use Rattle.cddf_meaning.specs.declared.cursor_move.Move.TheVariants.{Take}
 use Rattle.flow_core_laws.specs.declared.activation.Activation.{Activation}
 use Rattle.flow_core_laws.specs.declared.claim.Claim.{Claim}
-use Rattle.flow_core_laws.specs.Window.{claims_of}
+use Rattle.flow_core_laws.specs.Window.{claims_of, horizon_sum}
 use Rattle.os_code.specs.Machine as machine
-use Rattle.os_code.specs.Machine.{horizon_sum, claims_with_skips, skips_after, skips_after_all}
+use Rattle.os_code.specs.Machine.{claims_with_skips, skips_after, skips_after_all}
 use Rattle.lowering_relation.proofs.ItemClaims.{AllBelow}
 
 abbrev size : Claim → ℕ
@@ -20,7 +20,7 @@ size c = c.horizon
 pub sums_same : (made : List Activation) → horizon_sum (claims_of made) ≡ all_horizons made
 sums_same [] = refl
 sums_same (a ∷ made) =
-    sum_by-append size a.claims (claims_of made) ∙ ap (λ n. horizons a.claims + n) (sums_same made) ∙ sym (sum_by-cons (λ (x : Activation). horizons x.claims) a made)
+    sum_by-append size a.claims (claims_of made) ∙ ap (λ n. horizon_sum a.claims + n) (sums_same made) ∙ sym (sum_by-cons (λ (x : Activation). horizon_sum x.claims) a made)
 
 skip_size : (skips : List ℕ) (c : Claim) → (machine.with_skip skips c).horizon ≡ c.horizon
 skip_size skips c = by_case c.write
@@ -30,7 +30,7 @@ skip_size skips c = by_case c.write
     by_case false = refl
 
 -- skips change no horizon
-pub skipped_sum : (claims : List Claim) (skips : List ℕ) → horizon_sum (claims_with_skips skips claims) ≡ horizons claims
+pub skipped_sum : (claims : List Claim) (skips : List ℕ) → horizon_sum (claims_with_skips skips claims) ≡ horizon_sum claims
 skipped_sum [] skips = refl
 skipped_sum (c ∷ claims) skips =
     sum_by-cons size (machine.with_skip skips c) (claims_with_skips (skips_after skips c) claims)

@@ -8,7 +8,7 @@ use Rattle.cddf_meaning.specs.Variables.{bind}
 use Rattle.cddf_meaning.specs.declared.site.Site.{Site}
 use Rattle.cddf_meaning.specs.declared.variable.Variable.TheVariants.{Scalar, Array}
 use Rattle.os_ast.specs.Limits.{is_size}
-use Rattle.os_ast.specs.Meanings.{meaning}
+use Rattle.os_ast.specs.Meanings.{what_declared}
 use Rattle.os_ast.specs.Names.{Scope, declare}
 use Rattle.os_ast.specs.Notes.Declarators.{scalar_entity, sized_form, size_value, size_of, limited, form, form_entity, declared_entity, taken, after_declarator, after_declarators, declarator_notes, declarators_notes, is_window}
 use Rattle.os_ast.specs.Notes.Expressions.{value_notes}
@@ -157,8 +157,8 @@ module _ (c : Context) (callers : List Frame) (leaves : Instr) (total : ℕ) (si
         (subst (λ q. Leads c.code (at callers from stack m turns) (at callers q stack m1 turns)) h.1
         (one c.code (acts c.code (at callers from stack m turns) (instr.Zero s.slots k) h.0)))))
 
-  pub told : (s : Scope) (d : tree.DeclaratorTree) → Agree c (declarator_notes s d) → (tells c d.name.mark.place).what ≡ meaning (declared_entity s d)
-  told s d agree = ap (λ (r : Resolved). r.what) (told_is c.names d.name.mark.place (meaning (declared_entity s d)) s.unsigned c.ordered agree.0.1.0)
+  pub told : (s : Scope) (d : tree.DeclaratorTree) → Agree c (declarator_notes s d) → (tells c d.name.mark.place).what ≡ what_declared (declared_entity s d)
+  told s d agree = ap (λ (r : Resolved). r.what) (told_is c.names d.name.mark.place (what_declared (declared_entity s d)) s.unsigned c.ordered agree.0.1.0)
 
   pub scalar_done : (n : Name) (first : Option tree.ExprTree) → DeclaratorRuns (record { name = n; size = None; stream = false; first = first })
   scalar_done n first s es st m broke continued from to stack turns within ready stacked fits len agree h =
@@ -187,7 +187,7 @@ module _ (c : Context) (callers : List Frame) (leaves : Instr) (total : ℕ) (si
 
     array_done : (n : Name) (i : tree.IndexTree) (first : Option tree.ExprTree) (f : Form) (s : Scope) (es : List Entry) (st : BodyState) (m : Store) (broke continued from to : ℕ) (stack : List ℤ) (turns : ℕ) (within : List Entry → Type 0) →
         f ≡ form_of.Array (size_of s i.value) → Ready c s es st m → Stacked (means c) s.slots (es ++ c.bound) → (taken s f).slots ≤ total → length m.slots ≡ total →
-        has_no_size f (size_value s i.value) ≡ false → (tells c n.mark.place).what ≡ meaning (form_entity s f) →
+        has_no_size f (size_value s i.value) ≡ false → (tells c n.mark.place).what ≡ what_declared (form_entity s f) →
         HasDeclared c.code (tells c) (tells c n.mark.place).what (record { name = n; size = Some i; stream = false; first = first }) from to →
         ArrayGoal f n i s es st m broke continued from to stack turns within
     array_done n i first f s es st m broke continued from to stack turns within is ready stacked fits len kind says h =
@@ -199,7 +199,7 @@ module _ (c : Context) (callers : List Frame) (leaves : Instr) (total : ℕ) (si
         subst (λ x. ArrayGoal x n i s es st m broke continued from to stack turns within) (sym g)
         (array_does s es st m broke continued stack turns within ready stacked len n i.value k from to (size_small k known.within) (subst (λ x. (taken s x).slots ≤ total) g fits) known.is
         (ap (λ o. unwrap_or o 0) (limit_kept k known.within))
-        (subst (λ w. HasDeclared c.code (tells c) w d from to) (says ∙ ap (λ x. meaning (form_entity s x)) g) h))
+        (subst (λ w. HasDeclared c.code (tells c) w d from to) (says ∙ ap (λ x. what_declared (form_entity s x)) g) h))
 
     sized_done : (n : Name) (i : tree.IndexTree) (first : Option tree.ExprTree) → DeclaratorDoes (record { name = n; size = Some i; stream = false; first = first })
     sized_done n i first s es st m broke continued from to stack turns within ready deep stacked fits len agree h = by_owner c.owner refl

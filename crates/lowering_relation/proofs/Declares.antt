@@ -12,7 +12,7 @@ use Rattle.cddf_meaning.specs.declared.variable.Variable.{Variable}
 use Rattle.cddf_meaning.specs.declared.variable.Variable.TheVariants as variable_of
 use Rattle.cddf_meaning.specs.declared.variable.Variable.TheVariants.{Scalar, Array}
 use Rattle.os_ast.specs.Limits.{size_limit, is_size}
-use Rattle.os_ast.specs.Meanings.{meaning, meaning_in}
+use Rattle.os_ast.specs.Meanings.{what_declared, meaning_in}
 use Rattle.os_ast.specs.Names.{Scope, lookup, entity_of}
 use Rattle.os_ast.specs.Notes.Declarators.{scalar_entity, size_value, within_limit, constant_of, form, form_entity, taken, after_declarator, after_declarators}
 use Rattle.os_ast.specs.Trees as tree
@@ -63,7 +63,7 @@ means_streams owner.OfFunction xs first size = refl
 means_streams owner.OfTask xs first size = refl
 means_streams owner.OfMain xs first size = refl
 
-pub means_in_text : (o : Owner) (slot : ℕ) → meaning (scalar_entity o slot) ≡ what.Scalar slot
+pub means_in_text : (o : Owner) (slot : ℕ) → what_declared (scalar_entity o slot) ≡ what.Scalar slot
 means_in_text owner.OfFunction slot = refl
 means_in_text owner.OfTask slot = refl
 means_in_text owner.OfMain slot = refl

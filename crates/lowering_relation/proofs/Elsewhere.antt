@@ -4,7 +4,7 @@ use Rattle.std.proofs.lemmas.Bool.{or_right}
 use Rattle.c_int.specs.Operators.{is_zero}
 use Rattle.cddf_meaning.specs.Answers.{Answer, and_then, Left, left, with_turns}
 use Rattle.cddf_meaning.specs.File.{File, variable, or_in_file, flags, type_in}
-use Rattle.cddf_meaning.specs.Operators.{binary_value, unary_value}
+use Rattle.cddf_meaning.specs.Operators.{binary_answer, unary_answer}
 use Rattle.cddf_meaning.specs.BodyState.{BodyState, declared}
 use Rattle.cddf_meaning.specs.ExpressionTypes.{type_of_one, type_of_two, type_behind}
 use Rattle.cddf_meaning.specs.Value.{call_value, scalar_value, elements, element_at, as_truth, linked, value, place_value, values, chained}
@@ -53,22 +53,22 @@ same_others one other id ids h x is = h x (or_right (id == x) (is_in x ids) is)
 linked_same : (op : Binary) (line : ℕ) (u v : Bool) (a : Left ℤ) (f g : ℕ → Answer (Left ℤ)) → f a.turns ≡ g a.turns → linked op line u v a f ≡ linked op line u v a g
 linked_same binary.And line u v a f g e = ap (λ x. if is_zero a.value then Ok (left (pos 0) a.turns) else and_then x as_truth) e
 linked_same binary.Or line u v a f g e = ap (λ x. if is_zero a.value then and_then x as_truth else Ok (left (pos 1) a.turns)) e
-linked_same binary.BitOr line u v a f g e = ap (λ x. and_then x (λ b. with_turns b.turns (binary_value binary.BitOr line u v a.value b.value))) e
-linked_same binary.BitXor line u v a f g e = ap (λ x. and_then x (λ b. with_turns b.turns (binary_value binary.BitXor line u v a.value b.value))) e
-linked_same binary.BitAnd line u v a f g e = ap (λ x. and_then x (λ b. with_turns b.turns (binary_value binary.BitAnd line u v a.value b.value))) e
-linked_same binary.Equal line u v a f g e = ap (λ x. and_then x (λ b. with_turns b.turns (binary_value binary.Equal line u v a.value b.value))) e
-linked_same binary.Unequal line u v a f g e = ap (λ x. and_then x (λ b. with_turns b.turns (binary_value binary.Unequal line u v a.value b.value))) e
-linked_same binary.Less line u v a f g e = ap (λ x. and_then x (λ b. with_turns b.turns (binary_value binary.Less line u v a.value b.value))) e
-linked_same binary.LessEqual line u v a f g e = ap (λ x. and_then x (λ b. with_turns b.turns (binary_value binary.LessEqual line u v a.value b.value))) e
-linked_same binary.Greater line u v a f g e = ap (λ x. and_then x (λ b. with_turns b.turns (binary_value binary.Greater line u v a.value b.value))) e
-linked_same binary.GreaterEqual line u v a f g e = ap (λ x. and_then x (λ b. with_turns b.turns (binary_value binary.GreaterEqual line u v a.value b.value))) e
-linked_same binary.ShiftLeft line u v a f g e = ap (λ x. and_then x (λ b. with_turns b.turns (binary_value binary.ShiftLeft line u v a.value b.value))) e
-linked_same binary.ShiftRight line u v a f g e = ap (λ x. and_then x (λ b. with_turns b.turns (binary_value binary.ShiftRight line u v a.value b.value))) e
-linked_same binary.Add line u v a f g e = ap (λ x. and_then x (λ b. with_turns b.turns (binary_value binary.Add line u v a.value b.value))) e
-linked_same binary.Subtract line u v a f g e = ap (λ x. and_then x (λ b. with_turns b.turns (binary_value binary.Subtract line u v a.value b.value))) e
-linked_same binary.Multiply line u v a f g e = ap (λ x. and_then x (λ b. with_turns b.turns (binary_value binary.Multiply line u v a.value b.value))) e
-linked_same binary.Divide line u v a f g e = ap (λ x. and_then x (λ b. with_turns b.turns (binary_value binary.Divide line u v a.value b.value))) e
-linked_same binary.Remainder line u v a f g e = ap (λ x. and_then x (λ b. with_turns b.turns (binary_value binary.Remainder line u v a.value b.value))) e
+linked_same binary.BitOr line u v a f g e = ap (λ x. and_then x (λ b. with_turns b.turns (binary_answer binary.BitOr line u v a.value b.value))) e
+linked_same binary.BitXor line u v a f g e = ap (λ x. and_then x (λ b. with_turns b.turns (binary_answer binary.BitXor line u v a.value b.value))) e
+linked_same binary.BitAnd line u v a f g e = ap (λ x. and_then x (λ b. with_turns b.turns (binary_answer binary.BitAnd line u v a.value b.value))) e
+linked_same binary.Equal line u v a f g e = ap (λ x. and_then x (λ b. with_turns b.turns (binary_answer binary.Equal line u v a.value b.value))) e
+linked_same binary.Unequal line u v a f g e = ap (λ x. and_then x (λ b. with_turns b.turns (binary_answer binary.Unequal line u v a.value b.value))) e
+linked_same binary.Less line u v a f g e = ap (λ x. and_then x (λ b. with_turns b.turns (binary_answer binary.Less line u v a.value b.value))) e
+linked_same binary.LessEqual line u v a f g e = ap (λ x. and_then x (λ b. with_turns b.turns (binary_answer binary.LessEqual line u v a.value b.value))) e
+linked_same binary.Greater line u v a f g e = ap (λ x. and_then x (λ b. with_turns b.turns (binary_answer binary.Greater line u v a.value b.value))) e
+linked_same binary.GreaterEqual line u v a f g e = ap (λ x. and_then x (λ b. with_turns b.turns (binary_answer binary.GreaterEqual line u v a.value b.value))) e
+linked_same binary.ShiftLeft line u v a f g e = ap (λ x. and_then x (λ b. with_turns b.turns (binary_answer binary.ShiftLeft line u v a.value b.value))) e
+linked_same binary.ShiftRight line u v a f g e = ap (λ x. and_then x (λ b. with_turns b.turns (binary_answer binary.ShiftRight line u v a.value b.value))) e
+linked_same binary.Add line u v a f g e = ap (λ x. and_then x (λ b. with_turns b.turns (binary_answer binary.Add line u v a.value b.value))) e
+linked_same binary.Subtract line u v a f g e = ap (λ x. and_then x (λ b. with_turns b.turns (binary_answer binary.Subtract line u v a.value b.value))) e
+linked_same binary.Multiply line u v a f g e = ap (λ x. and_then x (λ b. with_turns b.turns (binary_answer binary.Multiply line u v a.value b.value))) e
+linked_same binary.Divide line u v a f g e = ap (λ x. and_then x (λ b. with_turns b.turns (binary_answer binary.Divide line u v a.value b.value))) e
+linked_same binary.Remainder line u v a f g e = ap (λ x. and_then x (λ b. with_turns b.turns (binary_answer binary.Remainder line u v a.value b.value))) e
 
 pub same_then : {A B : Type 0} (a b : Answer A) (f g : A → Answer B) → a ≡ b → ((x : A) → f x ≡ g x) → and_then a f ≡ and_then b g
 same_then a b f g e h = ap (λ x. and_then x f) e ∙ by_answer b h
@@ -145,8 +145,8 @@ module _ (file : File) (s : BodyState) (one other : List Binding) where
         (λ x. ap (λ o. call_value file.calls (or_in_file file f.id o) x) (same_own one other f.id (args_names args) h).0)
     value_same (tree.Paren e) turns h = value_same e turns h
     value_same (tree.Unary op m e) turns h =
-        ap (λ a. and_then a (λ n. with_turns n.turns (unary_value op m.line (type_in file here e) n.value))) (value_same e turns h)
-        ∙ ap (λ t. and_then (value file e there turns) (λ n. with_turns n.turns (unary_value op m.line t n.value))) (type_same e h)
+        ap (λ a. and_then a (λ n. with_turns n.turns (unary_answer op m.line (type_in file here e) n.value))) (value_same e turns h)
+        ∙ ap (λ t. and_then (value file e there turns) (λ n. with_turns n.turns (unary_answer op m.line t n.value))) (type_same e h)
     value_same (tree.Chain l first links) turns h =
         let front = same_first one other (expr_names first) (links_names links) h in
         same_then (value file first here turns) (value file first there turns) (chained file links here (type_in file here first)) (chained file links there (type_in file there first)) (value_same first turns front)

@@ -7,7 +7,7 @@ use Rattle.c_int.specs.declared.operators.Binary as int_binary
 use Rattle.c_int.specs.declared.operators.Unary.TheVariants as int_unary
 use Rattle.cddf_meaning.specs.Answers.{Answer, and_then, Left, left, with_turns}
 use Rattle.cddf_meaning.specs.File.{variable, or_in_file, type_in}
-use Rattle.cddf_meaning.specs.Operators.{operator_of_one, operator_of_two, operated_by, binary_value, unary_value}
+use Rattle.cddf_meaning.specs.Operators.{operator_of_one, operator_of_two, operated_by, binary_answer, unary_answer}
 use Rattle.cddf_meaning.specs.BodyState.{BodyState}
 use Rattle.cddf_meaning.specs.ExpressionTypes.{type_of_two}
 use Rattle.cddf_meaning.specs.Value.{call_value, scalar_value, elements, element_at, as_truth, linked, value, place_value, values, chained}
@@ -139,15 +139,15 @@ module _ (code : Parts) (callers : List Frame) where
       ends_at (p + 1) to stack m h.1 (binary_step code callers (binary_for u v op) line p a b stack m turns h.0)
 
   pub operates : (op : Binary) (line : ℕ) (u v : Bool) (p to : ℕ) (a b : ℤ) (stack : List ℤ) (m : Store) (turns : ℕ) → Stands code (operation op line u v) p to →
-      Meets code (at callers p (b ∷ a ∷ stack) m turns) (pushed callers to stack m) (with_turns turns (binary_value op line u v a b))
+      Meets code (at callers p (b ∷ a ∷ stack) m turns) (pushed callers to stack m) (with_turns turns (binary_answer op line u v a b))
   operates op line u v p to a b stack m turns h = operates_by (operator_of_two op) line u v p to a b stack m turns h
 
   both : (op : Binary) (line : ℕ) (u v : Bool) (has : ℕ → ℕ → Type 0) (right : ℕ → Answer (Left ℤ)) (a : Left ℤ) (from to : ℕ) (stack : List ℤ) (m : Store) →
       ((st : List ℤ) (turns p q : ℕ) → has p q → Meets code (at callers p st m turns) (pushed callers q st m) (right turns)) →
       ((end : ℕ) × has from end × Stands code (operation op line u v) end to) →
-      Meets code (at callers from (a.value ∷ stack) m a.turns) (pushed callers to stack m) (and_then (right a.turns) (λ b. with_turns b.turns (binary_value op line u v a.value b.value)))
+      Meets code (at callers from (a.value ∷ stack) m a.turns) (pushed callers to stack m) (and_then (right a.turns) (λ b. with_turns b.turns (binary_answer op line u v a.value b.value)))
   both op line u v has right a from to stack m runs h =
-      meets_then code (λ b. with_turns b.turns (binary_value op line u v a.value b.value)) refl (runs (a.value ∷ stack) a.turns from h.0 h.1)
+      meets_then code (λ b. with_turns b.turns (binary_answer op line u v a.value b.value)) refl (runs (a.value ∷ stack) a.turns from h.0 h.1)
       (λ b y. operates op line u v h.0 to a.value b.value stack m b.turns h.2)
 
   link_runs : (op : Binary) (line : ℕ) (u v : Bool) (has : ℕ → ℕ → Type 0) (right : ℕ → Answer (Left ℤ)) (a : Left ℤ) (from to : ℕ) (stack : List ℤ) (m : Store) →
@@ -171,13 +171,13 @@ module _ (code : Parts) (callers : List Frame) where
   unary_runs : (op : tree_unary.Unary) (line : ℕ) (unsigned : Bool) (e : tree.ExprTree) (has : ℕ → ℕ → Type 0) (v : Answer (Left ℤ)) (from to : ℕ) (stack : List ℤ) (m : Store) (turns : ℕ) →
       ((n : ℕ) → e ≡ tree.Number n → (v ≡ Ok (left (pos n) turns)) × (unsigned ≡ false)) →
       ((q : ℕ) → has from q → Meets code (at callers from stack m turns) (pushed callers q stack m) v) → HasUnary code op line unsigned e has from to →
-      Meets code (at callers from stack m turns) (pushed callers to stack m) (and_then v (λ n. with_turns n.turns (unary_value op line unsigned n.value)))
+      Meets code (at callers from stack m turns) (pushed callers to stack m) (and_then v (λ n. with_turns n.turns (unary_answer op line unsigned n.value)))
   unary_runs op line unsigned e has v from to stack m turns number runs (operated end h is) =
-      meets_then code (λ n. with_turns n.turns (unary_value op line unsigned n.value)) refl (runs end h)
+      meets_then code (λ n. with_turns n.turns (unary_answer op line unsigned n.value)) refl (runs end h)
       (λ n u. unary_step code callers (unary_for unsigned (operator_of_one op)) line end n.value stack m n.turns is)
   unary_runs op line unsigned e has v from to stack m turns number runs (worked_out {n = n} {v = w} is given at_push) =
-      subst (λ a. Meets code (at callers from stack m turns) (pushed callers (from + 1) stack m) (and_then a (λ n. with_turns n.turns (unary_value op line unsigned n.value)))) (sym (number n is).0)
-      (subst (λ a. Meets code (at callers from stack m turns) (pushed callers (from + 1) stack m) (with_turns turns a)) (sym (ap (λ t. unary_value op line t (pos n)) (number n is).1 ∙ given))
+      subst (λ a. Meets code (at callers from stack m turns) (pushed callers (from + 1) stack m) (and_then a (λ n. with_turns n.turns (unary_answer op line unsigned n.value)))) (sym (number n is).0)
+      (subst (λ a. Meets code (at callers from stack m turns) (pushed callers (from + 1) stack m) (with_turns turns a)) (sym (ap (λ t. unary_answer op line t (pos n)) (number n is).1 ∙ given))
       (gives (left w turns) tt (push code callers w from stack m turns at_push)))
 
 module _ (c : Context) (callers : List Frame) (s : Scope) (es : List Entry) (st : BodyState) (m : Store) (ready : Ready c s es st m) where

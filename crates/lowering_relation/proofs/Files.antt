@@ -14,7 +14,7 @@ use Rattle.cddf_meaning.proofs.Files.{item-falls}
 use Rattle.os_ast.specs.Leveled.{AreAll, cons, IsItem, AreStmts}
 use Rattle.os_ast.specs.Names.{Scope, lookup, entity_of, flag_of, enter, in_unit, main_id, constant_value}
 use Rattle.os_ast.specs.Notes.Kinds.{Note, Global}
-use Rattle.os_ast.specs.Notes.Programs.{owner_of, param_list, round_body, after_params, params_notes, after_item, after_items, after_function, item_notes, items_notes, in_body}
+use Rattle.os_ast.specs.Notes.Programs.{owner_of, param_list, round_body, after_params, params_notes, after_item, after_items, after_function, item_notes, items_notes, in_body, global_id}
 use Rattle.os_ast.specs.Notes.Programs as programs
 use Rattle.os_ast.specs.Notes.Statements.{after_stmts, stmts_notes}
 use Rattle.os_ast.specs.Trees as tree
@@ -38,7 +38,7 @@ use Rattle.lowering_relation.proofs.NoTasks.{IsOther, captures_both, none_both, 
 use Rattle.lowering_relation.proofs.Sizes.{stmts_sizes}
 use Rattle.lowering_relation.proofs.Steps.{at, pushed, onto, Meets}
 use Rattle.lowering_relation.proofs.StreamCounts.{stmts_streams, body_streams, items_more}
-use Rattle.window_check_laws.specs.Globals.{AreApart, global_id}
+use Rattle.window_check_laws.specs.Globals.{AreApart}
 use Rattle.window_check_laws.specs.Order.{InOrder}
 use Rattle.window_check_laws.specs.Sums.{stmts_slots}
 use Rattle.window_check_laws.specs.Told.{Tells, AreLawful}

@@ -182,7 +182,7 @@ module _ (c : Context) (callers : List Frame) (leaves : Instr) (total : ℕ) whe
       Does c.code (at callers (if is_zero v then fails else to) stack m turns) end (if is_zero v then x else y)
   branch_does v fails to stack m turns end x y a b = by_branch (is_zero v) v fails to stack m turns end x y refl a b
 
-  -- a loop from its unit on
+  -- a loop from its turn on
   pub loop_does : (most : ℕ) (test : BodyState → ℕ → Answer (Left ℤ)) (body step : Runs) (from begin again exit broke continued : ℕ) (stack : List ℤ) (es : List Entry) →
       instr_at c.code from ≡ Some instr.Turn →
       ((st : BodyState) (turns : ℕ) → Falls turns (test st turns)) → ((st : BodyState) (turns : ℕ) → Keeps st turns (body st turns)) → ((st : BodyState) (turns : ℕ) → Keeps st turns (step st turns)) →

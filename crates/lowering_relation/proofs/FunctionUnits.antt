@@ -18,7 +18,7 @@ use Rattle.os_code.specs.Effects.{operands_of, stands_in}
 use Rattle.os_code.specs.Parts.{Main, Function, kind_at}
 use Rattle.os_code.specs.declared.instr.Instr.TheVariants as instr
 use Rattle.os_code.specs.declared.parts.Parts.{Parts}
-use Rattle.os_code.specs.declared.unit.Unit.{Unit as CodeUnit}
+use Rattle.os_code.specs.declared.unit.CodeUnit.{CodeUnit}
 use Rattle.lowering_relation.specs.Names.{told_at}
 use Rattle.lowering_relation.specs.Programs.{size_by, in_function, in_main, HasFunction, HasMain}
 use Rattle.lowering_relation.specs.Statements.{Body}
@@ -37,7 +37,7 @@ use Rattle.window_check_laws.specs.Sums.{stmts_slots}
 use Rattle.window_check_laws.specs.Told.{AreLawful, Tells}
 use Rattle.window_check_laws.proofs.Summed.{summed-stmts}
 
--- what the file declares behind so many functions: constants, and functions that may be called but for `main`
+-- what the file declares behind `number` functions: constants, and functions that may be called but for `main`
 abbrev pub FileMay : Parts → (number id : ℕ) → Entity → Type 0
 FileMay code number id (entity.Constant v) = ⊤
 FileMay code number id (entity.Function callee params) =

@@ -32,7 +32,7 @@ use Rattle.os_ast.specs.declared.names.What.TheVariants as what
 use Rattle.os_ast.specs.declared.program.Param.{Param}
 use Rattle.os_code.specs.declared.instr.Instr.TheVariants as instr
 use Rattle.os_code.specs.declared.parts.Parts.{Parts}
-use Rattle.os_code.specs.declared.unit.Unit.{Unit as CodeUnit}
+use Rattle.os_code.specs.declared.unit.CodeUnit.{CodeUnit}
 use Rattle.os_code.specs.Machine as machine
 use Rattle.os_code.specs.Machine.{Frame, Progress, Going, Stuck, pop_many, frame_slots, calls, or_stuck, act, step}
 use Rattle.os_code.specs.Parts.{instr_at, unit_at}

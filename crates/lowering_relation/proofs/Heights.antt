@@ -5,10 +5,10 @@ use Rattle.os_code.specs.declared.instr.Instr.{Instr}
 use Rattle.os_code.specs.declared.instr.Instr.TheVariants.{Push, Drop, Copy, Load, Store, Zero, CheckAt, LoadAt, StoreAt, ItemCheck, ItemLoad, ItemStore, Unary, Binary, Jump, JumpZero, Turn, Call, Return, End, Window, BurstIn, BurstOut, Spawn, Tick}
 use Rattle.os_code.specs.declared.parts.Parts.{Parts}
 use Rattle.os_code.specs.Parts.{instr_at}
-use Rattle.os_code.specs.Effects.{operands_of, height_after, goes_on}
+use Rattle.os_code.specs.Effects.{operands_of, height_after, falls_through}
 
 abbrev pub behind_one : Parts → ℕ → Instr → ℕ
-behind_one code height instr = if goes_on instr then height_after code instr height else height - 1
+behind_one code height instr = if falls_through instr then height_after code instr height else height - 1
 
 abbrev pub behind : Parts → ℕ → Option Instr → ℕ
 behind code height None = height

@@ -2,7 +2,7 @@
 use Rattle.std.proofs.Common.{◌≡◌, ℕ, ◌+◌, ◌-◌, ◌<◌, ◌≤◌, true, List, [], ◌∷◌, length, Some, slice_get}
 use Rattle.std.specs.Prelude.{⊤, ◌⊎◌, All, IsTrue}
 use Rattle.os_ast.specs.Captured.{slots_of}
-use Rattle.os_ast.specs.Meanings.{meaning}
+use Rattle.os_ast.specs.Meanings.{what_declared}
 use Rattle.os_ast.specs.Notes.Declarators.{declared_entity}
 use Rattle.os_ast.specs.Notes.Kinds.{Note, Used, Declared, Pragma, Task}
 use Rattle.os_ast.specs.ClauseParts.{count_items}
@@ -22,7 +22,7 @@ use Rattle.os_code.specs.declared.site.Site.{Site}
 use Rattle.os_code.specs.declared.site.SiteItem.{SiteItem}
 use Rattle.lowering_relation.specs.Names.{first_of}
 use Rattle.lowering_relation.specs.Statements.{Body}
-use Rattle.lowering_relation.specs.Tasks.{TaskTree, number_of}
+use Rattle.lowering_relation.specs.Tasks.{TaskTree, task_index}
 use Rattle.lowering_relation.proofs.Heights.{height_at}
 
 -- a body in its unit, whose region is from `first` to `last`
@@ -123,7 +123,7 @@ FitsUse h usage.Private w = ⊤
 
 abbrev pub FitsNote : Home → Note → Type 0
 FitsNote h (Used s n u) = FitsUse h u (tells h n.mark.place).what
-FitsNote h (Declared s d) = ((tells h d.name.mark.place).what ≡ meaning (declared_entity s d)) × Fits h (meaning (declared_entity s d))
+FitsNote h (Declared s d) = ((tells h d.name.mark.place).what ≡ what_declared (declared_entity s d)) × Fits h (what_declared (declared_entity s d))
 FitsNote h (Pragma s m) = h.kind ≡ Main
 FitsNote h (Task s m items captured) = (h.kind ≡ Main) × (items ≤ 8) × (length captured ≤ 64) × All (λ slot. slot < h.slots) (slots_of captured)
 FitsNote h _ = ⊤
@@ -136,5 +136,5 @@ AllFit h (n ∷ ns) = FitsNote h n × AllFit h ns
 abbrev pub AreSpawned : Home → List TaskTree → Type 0
 AreSpawned h [] = ⊤
 AreSpawned h (t ∷ ts) =
-    ((number : ℕ) → number_of h.body.tasks t.mark ≡ Some number → (operands_of h.code (instr.Spawn number) ≡ count_items t.parts + count_items t.parts) × (number < length h.code.sites))
+    ((number : ℕ) → task_index h.body.tasks t.mark ≡ Some number → (operands_of h.code (instr.Spawn number) ≡ count_items t.parts + count_items t.parts) × (number < length h.code.sites))
     × AreSpawned h ts

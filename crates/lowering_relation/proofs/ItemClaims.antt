@@ -102,7 +102,7 @@ claim_is all slots item k v stream horizon amount a b e =
 size_is : (horizon : ℕ) → 1 ≤ horizon → horizon ≤ 65536 → size_of (pos horizon) ≡ Some horizon
 size_is horizon lo hi = ap (λ b. if b && leb horizon 65536 then Some horizon else None) (le-leb 1 horizon lo) ∙ ap (λ b. if b then Some horizon else None) (le-leb horizon 65536 hi)
 
--- each claims one of so many streams
+-- each claims one of `streams` streams
 abbrev pub AllBelow : ℕ → List Claim → Type 0
 AllBelow streams [] = ⊤
 AllBelow streams (x ∷ xs) = (x.stream < streams) × AllBelow streams xs

@@ -1,7 +1,7 @@
 -- The code of declarations leaves no operands.
 use Rattle.std.proofs.Common.{◌≡◌, ℕ, ◌+◌, ◌≤◌, ◌&&◌, Bool, true, false, not, if◌then◌else◌, List, [], ◌∷◌, Option, Some, None, refl, subst, arith, pos}
 use Rattle.std.specs.Prelude.{⊤}
-use Rattle.os_ast.specs.Meanings.{meaning}
+use Rattle.os_ast.specs.Meanings.{what_declared}
 use Rattle.os_ast.specs.Names.{Scope, typed}
 use Rattle.os_ast.specs.Notes.Declarators.{scalar_entity, sized_form, form_entity, size_of, is_window, sized_notes, size_notes, declared_entity, after_declarator, declarator_notes, declarators_notes, start_notes}
 use Rattle.os_ast.specs.Notes.Expressions.{expr_notes, value_notes}
@@ -18,7 +18,7 @@ use Rattle.lowering_relation.proofs.LaidChanges.{change_lays}
 use Rattle.lowering_relation.proofs.LaidExprs.{expr_lays}
 use Rattle.lowering_relation.proofs.Lays.{Lays, fit_first, fit_rest, nothing, then_lays, to_end, straight}
 
-scalar_means : (o : Owner) (slot : ℕ) → meaning (scalar_entity o slot) ≡ what.Scalar slot
+scalar_means : (o : Owner) (slot : ℕ) → what_declared (scalar_entity o slot) ≡ what.Scalar slot
 scalar_means owner.OfMain slot = refl
 scalar_means owner.OfFunction slot = refl
 scalar_means owner.OfTask slot = refl
@@ -46,9 +46,9 @@ module _ (h : Home) where
     abbrev by_parts : Bool → Option tree.IndexTree → tree.DeclaratorTree
     by_parts stream size = record { name = n; size = size; stream = stream; first = first }
 
-    window_lays : (o : Owner) (i : tree.IndexTree) (size : Option ℕ) → Fits h (meaning (form_entity s (sized_form o size))) →
+    window_lays : (o : Owner) (i : tree.IndexTree) (size : Option ℕ) → Fits h (what_declared (form_entity s (sized_form o size))) →
         AllFit h (if is_window o && not false then expr_notes s i.value else size_notes s i.value) →
-        HasDeclared h.code (tells h) (meaning (form_entity s (sized_form o size))) (by_parts false (Some i)) from to → Lays h ⊤ from 0 to 0
+        HasDeclared h.code (tells h) (what_declared (form_entity s (sized_form o size))) (by_parts false (Some i)) from to → Lays h ⊤ from 0 to 0
     window_lays owner.OfMain i size fits fit has =
         then_lays h (expr_lays h i.value s from has.0 0 fit has.1).1
         (straight h (instr.Window s.slots i.mark.line ∷ []) has.0 to 1 0 has.2 ((refl, refl, refl, refl), omega arith, fits, omega arith))
@@ -57,10 +57,10 @@ module _ (h : Home) where
     window_lays owner.OfTask i size fits fit has =
         straight h (instr.Zero s.slots _ ∷ []) from to 0 0 has ((refl, refl, refl, refl), omega arith, fits, omega arith)
 
-    declared_lays : (stream : Bool) (size : Option tree.IndexTree) → Fits h (meaning (declared_entity s (by_parts stream size))) →
+    declared_lays : (stream : Bool) (size : Option tree.IndexTree) → Fits h (what_declared (declared_entity s (by_parts stream size))) →
         AllFit h (sized_notes s stream size) →
         AllFit h (value_notes (after_declarator s (by_parts stream size)) first) →
-        HasDeclared h.code (tells h) (meaning (declared_entity s (by_parts stream size))) (by_parts stream size) from to → Lays h ⊤ from 0 to 0
+        HasDeclared h.code (tells h) (what_declared (declared_entity s (by_parts stream size))) (by_parts stream size) from to → Lays h ⊤ from 0 to 0
     declared_lays true None fits sized valued has = to_end h has (nothing h from 0)
     declared_lays true (Some i) fits sized valued has = to_end h has (nothing h from 0)
     declared_lays false None fits sized valued has =

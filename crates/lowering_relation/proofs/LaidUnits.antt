@@ -4,12 +4,12 @@ use Rattle.std.proofs.lemmas.Bool.{cases_lt}
 use Rattle.std.specs.Prelude.{⊤, ◌⊎◌, IsTrue}
 use Rattle.os_ast.specs.Names.{Scope}
 use Rattle.os_ast.specs.Trees as tree
-use Rattle.os_code.specs.Effects.{operands_of, height_after, jump_of, goes_on, needs_turn, stands_in}
+use Rattle.os_code.specs.Effects.{operands_of, height_after, jump_of, falls_through, needs_turn, stands_in}
 use Rattle.os_code.specs.Parts.{instr_at, kind_at}
 use Rattle.os_code.specs.declared.instr.Instr.{Instr}
 use Rattle.os_code.specs.declared.instr.Instr.TheVariants as instr
 use Rattle.os_code.specs.declared.parts.Parts.{Parts}
-use Rattle.os_code.specs.declared.unit.Unit.{Unit as CodeUnit}
+use Rattle.os_code.specs.declared.unit.CodeUnit.{CodeUnit}
 use Rattle.lowering_relation.specs.Expressions.{Stands}
 use Rattle.lowering_relation.specs.Statements.{Body, HasStmt, HasStmts}
 use Rattle.lowering_relation.specs.Tasks.{tasks_of, all_tasks_of}
@@ -37,7 +37,7 @@ pub record IsLaid (code : Parts) (number : ℕ) (unit : CodeUnit) : Type 0 where
   pub height : height_at code unit.start ≡ 0 → height_at code (unit.start + unit.stack) ≡ 0
   pub fine : height_at code unit.start ≡ 0 → AreFine (home_of code body number unit) unit.start (unit.start + unit.stack)
   -- it doesn't go on past its end
-  pub stays : (p : ℕ) (i : Instr) → unit.start ≤ p → p < unit.start + unit.stack → instr_at code p ≡ Some i → goes_on i ≡ true → p + 1 < unit.start + unit.stack
+  pub stays : (p : ℕ) (i : Instr) → unit.start ≤ p → p < unit.start + unit.stack → instr_at code p ≡ Some i → falls_through i ≡ true → p + 1 < unit.start + unit.stack
   pub args : unit.args ≤ unit.slots
 
 module _ (code : Parts) (body : Body) (number : ℕ) (unit : CodeUnit) where
@@ -45,7 +45,7 @@ module _ (code : Parts) (body : Body) (number : ℕ) (unit : CodeUnit) where
   home = home_of code body number unit
 
   -- behind the body stands an instruction that ends it
-  closed_by : (place x : ℕ) (i : Instr) → Lays home ⊤ unit.start 0 place x → instr_at code place ≡ Some i → goes_on i ≡ false → jump_of i ≡ None →
+  closed_by : (place x : ℕ) (i : Instr) → Lays home ⊤ unit.start 0 place x → instr_at code place ≡ Some i → falls_through i ≡ false → jump_of i ≡ None →
       needs_turn i ≡ false → operands_of code i ≤ x → x ≤ 1 →
       Suits home i → unit.start + unit.stack ≡ place + 1 → unit.args ≤ unit.slots → IsLaid code number unit
   closed_by place x i front is off none low enough few suits ends args = record {
@@ -73,14 +73,14 @@ module _ (code : Parts) (body : Body) (number : ℕ) (unit : CodeUnit) where
           })
           p j late (omega (arith, lt, ends)) there
 
-      by_end : (p : ℕ) (j : Instr) → p < unit.start + unit.stack → instr_at code p ≡ Some j → goes_on j ≡ true → (p < place) ⊎ (place ≤ p) →
+      by_end : (p : ℕ) (j : Instr) → p < unit.start + unit.stack → instr_at code p ≡ Some j → falls_through j ≡ true → (p < place) ⊎ (place ≤ p) →
           p + 1 < unit.start + unit.stack
       by_end p j lt there on (inl early) = omega (arith, early, ends)
       by_end p j lt there on (inr late) =
           let same : p ≡ place = omega (arith, late, lt, ends) in
           let twice : Some i ≡ Some j = sym is ∙ subst (λ q. instr_at code q ≡ Some j) same there in
           let k : i ≡ j = cc in
-          let z : true ≡ false = sym on ∙ ap goes_on (sym k) ∙ off in
+          let z : true ≡ false = sym on ∙ ap falls_through (sym k) ∙ off in
           absurd (cc)
 
   -- the labels of a body are its end

@@ -3,7 +3,7 @@ use Rattle.std.proofs.Common.{◌≡◌, ℕ, suc, ◌+◌, ◌-◌, ◌<◌, �
 use Rattle.std.proofs.lemmas.Bool.{cases_lt}
 use Rattle.std.specs.Prelude.{⊤, ◌⊎◌}
 use Rattle.os_ast.specs.Notes.Kinds.{Note}
-use Rattle.os_code.specs.Effects.{operands_of, height_after, jump_of, goes_on, needs_turn}
+use Rattle.os_code.specs.Effects.{operands_of, height_after, jump_of, falls_through, needs_turn}
 use Rattle.os_code.specs.Parts.{instr_at}
 use Rattle.os_code.specs.declared.instr.Instr.{Instr}
 use Rattle.os_code.specs.declared.instr.Instr.TheVariants as instr
@@ -24,7 +24,7 @@ is_turn _ = false
 
 -- an instruction that goes on to the next place, and stands anywhere
 abbrev pub IsPlain : Instr → Type 0
-IsPlain i = (goes_on i ≡ true) × (jump_of i ≡ None) × (needs_turn i ≡ false) × (is_turn i ≡ false)
+IsPlain i = (falls_through i ≡ true) × (jump_of i ≡ None) × (needs_turn i ≡ false) × (is_turn i ≡ false)
 
 -- instructions that go from one height to another
 abbrev pub Rises : Home → List Instr → (x y : ℕ) → Type 0
@@ -193,7 +193,7 @@ module _ (h : Home) where
       })
 
   -- a call or a tick behind its `Turn`
-  pub turned : (from to x y : ℕ) (i : Instr) → Stands h.code (instr.Turn ∷ i ∷ []) from to → goes_on i ≡ true → jump_of i ≡ None → is_turn i ≡ false →
+  pub turned : (from to x y : ℕ) (i : Instr) → Stands h.code (instr.Turn ∷ i ∷ []) from to → falls_through i ≡ true → jump_of i ≡ None → is_turn i ≡ false →
       operands_of h.code i ≤ x →
       height_after h.code i x ≡ y → Suits h i → Lays h ⊤ from x to y
   turned from to x y i stands on none other enough rises suits = record {
@@ -255,7 +255,7 @@ module _ (h : Home) where
       by_place g low high e p j ge lt there (inr late) = f.fine g (omega (arith, low)) high (behind e) p j late lt there
 
   -- what ends a body has its value on the stack, if it asks for one
-  pub leaving : {given : Type 0} (place x : ℕ) (i : Instr) → instr_at h.code place ≡ Some i → goes_on i ≡ false → jump_of i ≡ None → needs_turn i ≡ false →
+  pub leaving : {given : Type 0} (place x : ℕ) (i : Instr) → instr_at h.code place ≡ Some i → falls_through i ≡ false → jump_of i ≡ None → needs_turn i ≡ false →
       is_turn i ≡ false →
       operands_of h.code i ≤ x → Suits h i → Lays h given place x (place + 1) (x - 1)
   leaving place x i is off none low other enough suits =

@@ -104,7 +104,7 @@ array_allowed direction.Reads first k h = ne_eqb (first + k) 1 (λ e. omega (ari
 array_allowed direction.Writes first k h = ne_eqb (first + k) 0 (λ e. omega (arith, e, h))
 
 module _ (code : Parts) (file : File) (falls : CallsFall file) (names : List Resolved) (ordered : InOrder names) (file_es : List Entry) (fits : FileFits code file file_es) where
-  -- the body of `main`, where it has so many streams so far, and so many come later
+  -- the body of `main`, where it has `streams` streams so far, and `later` streams come later
   abbrev pub main_context : (streams later : ℕ) → Context
   main_context streams later = record {
     code = code;

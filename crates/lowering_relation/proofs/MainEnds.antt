@@ -12,7 +12,7 @@ use Rattle.flow_core_laws.specs.declared.control.Control.{Control}
 use Rattle.os_ast.specs.declared.names.Entry.{Entry}
 use Rattle.os_code.specs.declared.instr.Instr.TheVariants as instr
 use Rattle.os_code.specs.declared.parts.Parts.{Parts}
-use Rattle.os_code.specs.Control.{control_end}
+use Rattle.os_code.specs.Control.{halt_end}
 use Rattle.os_code.specs.Machine as machine
 use Rattle.os_code.specs.Machine.{Halt, Runs}
 use Rattle.os_code.specs.Parts.{instr_at}
@@ -22,7 +22,7 @@ use Rattle.lowering_relation.proofs.Steps.{Store, at, Leads, stays, steps, Stops
 use Rattle.lowering_relation.proofs.TaskRuns.{to_end}
 
 abbrev pub made_so : List Activation → Halt → Control
-made_so activations halt = record { activations = activations; end = control_end halt }
+made_so activations halt = record { activations = activations; end = halt_end halt }
 
 -- the machine ends from this state as the rest of `main` does
 pub record MainEnds (code : Parts) (s : machine.MachineState) (r : Ran) : Type 0 where
@@ -42,7 +42,7 @@ at_end {code = code} {s = s} f st m q stack turns left l is same =
     let run = to_end code s (at [] q stack m turns) l is in
     record { halt = machine.Ended; last = at [] q stack m turns; count = run.0; runs = run.1; ends = ap (λ made. made_so made machine.Ended) same }
 
-same_end : (e : Ending) → meaning.control_end e ≡ control_end (halt_of e)
+same_end : (e : Ending) → meaning.control_end e ≡ halt_end (halt_of e)
 same_end (ending.Trapped code line) = refl
 same_end ending.OverBudget = refl
 same_end (ending.Limited n) = refl

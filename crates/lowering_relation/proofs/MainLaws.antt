@@ -31,7 +31,7 @@ use Rattle.os_code.specs.Control.{ControlEnds}
 use Rattle.os_code.specs.Machine.{frame_slots}
 use Rattle.os_code.specs.Parts.{unit_at}
 use Rattle.os_code.proofs.Halting.{main_ends_are_one}
-use Rattle.lowering_relation.specs.Laws.{StandsFor}
+use Rattle.lowering_relation.specs.Laws.{CodeStandsFor}
 use Rattle.lowering_relation.specs.Names.{told_at}
 use Rattle.lowering_relation.specs.Programs.{size_by, HasMain}
 use Rattle.lowering_relation.specs.Tasks.{program_tasks}
@@ -84,7 +84,7 @@ round_entries s =
     ∷ record { id = osin_id; depth = s.depth + 1; entity = entity.Stream 0; unsigned = false }
     ∷ []
 
-module _ (p : tree.ProgramTree) (code : Parts) (input_len budget : ℕ) (stands : StandsFor code p) where
+module _ (p : tree.ProgramTree) (code : Parts) (input_len budget : ℕ) (stands : CodeStandsFor code p) where
   abbrev Ends : Control → Type 0
   Ends made = (steps : ℕ) × ControlEnds code input_len budget made steps
 

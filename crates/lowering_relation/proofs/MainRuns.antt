@@ -15,7 +15,7 @@ use Rattle.cddf_meaning.specs.declared.variable.Variable.{Variable}
 use Rattle.cddf_meaning.specs.declared.variable.Variable.TheVariants as variable
 use Rattle.os_ast.specs.Leveled.{IsStmt, AreStmts}
 use Rattle.os_ast.specs.Limits.{is_size}
-use Rattle.os_ast.specs.Meanings.{meaning}
+use Rattle.os_ast.specs.Meanings.{what_declared}
 use Rattle.os_ast.specs.Names.{Scope, typed}
 use Rattle.os_ast.specs.Notes.Declarators.{size_value, size_of, limited, form, form_with, taken, after_declarator, after_declarators, declarator_notes, declarators_notes}
 use Rattle.os_ast.specs.Notes.Kinds.{Note}
@@ -100,7 +100,7 @@ module _ (code : Parts) (file : File) (falls : CallsFall file) (names : List Res
   abbrev pub b : Body
   b = record { tells = told_at names; tasks = tasks; leaves = instr.End }
 
-  -- A place of the outermost block: the run has so many streams so far, as the text has; the code's others come later.
+  -- A place of the outermost block: the run has as many streams so far as the text; the code's others come later.
   pub record Outer (s : Scope) (es : List Entry) (st : BodyState) (m : Store) : Type 0 where
     pub streams : ℕ
     pub later : ℕ
@@ -114,8 +114,8 @@ module _ (code : Parts) (file : File) (falls : CallsFall file) (names : List Res
   no_rule : (streams later : ℕ) (ns : List Note) → AreLawful ns → Tells names ns → Agree (context streams later) ns
   no_rule streams later ns lawful tells = agrees (context streams later) ns lawful tells (λ n. tt)
 
-  -- behind the declaration of so many streams
-  streams_behind : (s : Scope) (es : List Entry) (st : BodyState) (m : Store) (d : tree.DeclaratorTree) (count : ℕ) → Outer s es st m → (entry s d).id ≡ d.name.id → meaning (entry s d).entity ≡ what.Stream (2 + s.streams) count →
+  -- behind the declaration of `count` streams
+  streams_behind : (s : Scope) (es : List Entry) (st : BodyState) (m : Store) (d : tree.DeclaratorTree) (count : ℕ) → Outer s es st m → (entry s d).id ≡ d.name.id → what_declared (entry s d).entity ≡ what.Stream (2 + s.streams) count →
       (after_declarator s d).streams ≡ s.streams + count → 2 + (after_declarator s d).streams ≤ code.streams →
       Outer (after_declarator s d) (entry s d ∷ es) (with_streams d.name.id s.unsigned count st) m
   streams_behind s es st m d count o same mean taken_so few =

@@ -15,7 +15,7 @@ use Rattle.os_ast.specs.declared.names.Owner.TheVariants as owner
 use Rattle.os_ast.specs.declared.names.Resolved.{Resolved}
 use Rattle.os_code.specs.Parts.{Function, kind_at, unit_at}
 use Rattle.os_code.specs.declared.parts.Parts.{Parts}
-use Rattle.os_code.specs.declared.unit.Unit.{Unit as CodeUnit}
+use Rattle.os_code.specs.declared.unit.CodeUnit.{CodeUnit}
 use Rattle.lowering_relation.specs.Names.{told_at}
 use Rattle.lowering_relation.specs.Programs.{HasUnit, HasFunctions}
 use Rattle.lowering_relation.specs.Tasks.{TaskTree, program_tasks, all_tasks_of}

@@ -4,7 +4,7 @@ use Rattle.std.proofs.lemmas.Bool.{or_right}
 use Rattle.cddf_meaning.specs.Answers.{Answer, Left, left, and_then, with_turns}
 use Rattle.cddf_meaning.specs.File.{File, or_in_file, type_in}
 use Rattle.cddf_meaning.specs.Flow.{Ran, with_value, goes_on}
-use Rattle.cddf_meaning.specs.Operators.{binary_value, step_operator}
+use Rattle.cddf_meaning.specs.Operators.{binary_answer, step_operator}
 use Rattle.cddf_meaning.specs.Run.{assigned, aim_at, old_value, after_store, changed, target_type, run_change, array_size, run_array, window_size, run_window, with_streams, run_sized, run_declarator, run_declarators, run_start}
 use Rattle.cddf_meaning.specs.BodyState.{BodyState, declared, stored_in, stored, stored_in_at}
 use Rattle.cddf_meaning.specs.Value.{value, scalar_value, elements, checked}
@@ -163,12 +163,12 @@ module _ (c : Context) (more : List Binding) (apart : AreElse c.file more) (site
         ∙ ap (λ v. and_then (value c.file e st2 k) (λ n. with_turns n.turns (assigned a m.line (target_type c.file st2 t) v old n.value))) (type_more c.file more apart st e seen_e))
     change_same (tree.After t p m) st turns within same agree =
         let seen_t = seen_target c s es is st.bound same t agree in
-        changed_same t (λ old s turns. with_turns turns (binary_value (step_operator p) m.line (target_type c.file s t) false old (pos 1))) st turns es within seen_t same
-        (λ old k. ap (λ u. with_turns k (binary_value (step_operator p) m.line u false old (pos 1))) (target_type_more c.file more apart st t seen_t))
+        changed_same t (λ old s turns. with_turns turns (binary_answer (step_operator p) m.line (target_type c.file s t) false old (pos 1))) st turns es within seen_t same
+        (λ old k. ap (λ u. with_turns k (binary_answer (step_operator p) m.line u false old (pos 1))) (target_type_more c.file more apart st t seen_t))
     change_same (tree.Before t p m) st turns within same agree =
         let seen_t = seen_target c s es is st.bound same t agree in
-        changed_same t (λ old s turns. with_turns turns (binary_value (step_operator p) m.line (target_type c.file s t) false old (pos 1))) st turns es within seen_t same
-        (λ old k. ap (λ u. with_turns k (binary_value (step_operator p) m.line u false old (pos 1))) (target_type_more c.file more apart st t seen_t))
+        changed_same t (λ old s turns. with_turns turns (binary_answer (step_operator p) m.line (target_type c.file s t) false old (pos 1))) st turns es within seen_t same
+        (λ old k. ap (λ u. with_turns k (binary_answer (step_operator p) m.line u false old (pos 1))) (target_type_more c.file more apart st t seen_t))
 
     -- a declarator, by its parts
     abbrev DeclaratorSame : tree.DeclaratorTree → Type 1

@@ -10,7 +10,7 @@ use Rattle.cddf_meaning.proofs.Files.{item-falls}
 use Rattle.os_ast.specs.Leveled.{AreAll, cons, IsItem, AreStmts}
 use Rattle.os_ast.specs.Names.{Scope, main_id, constant_value}
 use Rattle.os_ast.specs.Notes.Kinds.{Note, Global}
-use Rattle.os_ast.specs.Notes.Programs.{param_list, params_notes, after_item, after_items, item_notes, items_notes, in_body}
+use Rattle.os_ast.specs.Notes.Programs.{param_list, params_notes, after_item, after_items, item_notes, items_notes, in_body, global_id}
 use Rattle.os_ast.specs.Notes.Programs as programs
 use Rattle.os_ast.specs.Notes.Statements.{after_stmts, stmts_notes}
 use Rattle.os_ast.specs.Trees as tree
@@ -23,7 +23,7 @@ use Rattle.lowering_relation.specs.Tasks.{all_tasks_of, program_tasks}
 use Rattle.lowering_relation.proofs.Context.{IsCallable}
 use Rattle.lowering_relation.proofs.Files.{AllOfFile, fits_more, same_calls, bare_main}
 use Rattle.lowering_relation.proofs.Functions.{FileFits}
-use Rattle.window_check_laws.specs.Globals.{AreApart, global_id}
+use Rattle.window_check_laws.specs.Globals.{AreApart}
 use Rattle.window_check_laws.specs.Order.{InOrder}
 use Rattle.window_check_laws.specs.Told.{Tells, AreLawful}
 use Rattle.window_check_laws.proofs.Told.{tells-first, tells-rest, lawful-first, lawful-rest}

@@ -10,7 +10,7 @@ use Rattle.cddf_meaning.specs.Claims.{limit}
 use Rattle.cddf_meaning.specs.Control.{control, control_in, control_of, control_state, round_main}
 use Rattle.cddf_meaning.specs.File.{File, variable, type_in}
 use Rattle.cddf_meaning.specs.Flow.{Ran, Runs, Went, Ended, with_value, goes_on, flows, loops, left_from}
-use Rattle.cddf_meaning.specs.Operators.{binary_value, step_operator}
+use Rattle.cddf_meaning.specs.Operators.{binary_answer, step_operator}
 use Rattle.cddf_meaning.specs.Program.{Main, main_of}
 use Rattle.cddf_meaning.specs.Run.{Around, loop, assigned, aim_at, old_value, after_store, changed, target_type, run_change, run_scalar, array_size, run_array, run_window, window_size, with_streams, run_streams, run_unsized_or, run_declarator, run_declarators, run_start, run_test, run_step, run, run_all}
 use Rattle.cddf_meaning.specs.BodyState.{BodyState, declared, stored, stored_in, stored_in_at}
@@ -124,8 +124,8 @@ module _ (n : ℕ) where
   change_sited : (file : File) (c : tree.ChangeTree) → RunsSited (run_change file c)
   change_sited file (tree.Set t a m e) =
       changed_sited file t (λ old s turns. and_then (value file e s turns) (λ n. with_turns n.turns (assigned a m.line (target_type file s t) (type_in file s e) old n.value)))
-  change_sited file (tree.After t p m) = changed_sited file t (λ old s turns. with_turns turns (binary_value (step_operator p) m.line (target_type file s t) false old (pos 1)))
-  change_sited file (tree.Before t p m) = changed_sited file t (λ old s turns. with_turns turns (binary_value (step_operator p) m.line (target_type file s t) false old (pos 1)))
+  change_sited file (tree.After t p m) = changed_sited file t (λ old s turns. with_turns turns (binary_answer (step_operator p) m.line (target_type file s t) false old (pos 1)))
+  change_sited file (tree.Before t p m) = changed_sited file t (λ old s turns. with_turns turns (binary_answer (step_operator p) m.line (target_type file s t) false old (pos 1)))
 
   scalar_sited : (file : File) (w : Bool) (id : ℕ) (first : Option tree.ExprTree) → RunsSited (run_scalar file w id first)
   scalar_sited file w id None s turns h = h

@@ -8,7 +8,7 @@ use Rattle.os_ast.specs.Names.{Scope, lookup, entity_of, enter, in_loop, typed, 
 use Rattle.os_ast.specs.Notes.Clauses.{in_task_body, parts_notes, window_notes, clauses_notes}
 use Rattle.os_ast.specs.Notes.Declarators.{limited, constant_of, size_value, size_of, size_told, form, form_with, is_window, after_declarator, declarator_notes, declarators_notes, size_notes, sized_notes, after_start, start_notes}
 use Rattle.os_ast.specs.Notes.Expressions.{expr_notes, place_notes, args_notes, links_notes, value_notes, index_notes, change_notes, step_notes}
-use Rattle.os_ast.specs.Notes.Kinds.{Note, Used, Sized, Declared, Given, Global, Left, Returned, Pragma, Task, Listed}
+use Rattle.os_ast.specs.Notes.Kinds.{Note, Used, Sized, Declared, Parameter, Global, Left, Returned, Pragma, Task, Listed}
 use Rattle.os_ast.specs.Notes.Statements.{after_stmt, stmt_notes, stmts_notes}
 use Rattle.os_ast.specs.ClauseParts.{ClausePart, Item, Private, parts, part_name, count_items}
 use Rattle.os_ast.specs.Rules.{has_no_size, has_too_many}
@@ -46,7 +46,7 @@ module _ (size : tree.ExprTree → ℕ) where
   sizes_both (Declared s d ∷ xs) ys a b = (a.0, sizes_both xs ys a.1 b)
   sizes_both (Used s n u ∷ xs) ys a b = sizes_both xs ys a b
   sizes_both (Sized s n ∷ xs) ys a b = sizes_both xs ys a b
-  sizes_both (Given s n ∷ xs) ys a b = sizes_both xs ys a b
+  sizes_both (Parameter s n ∷ xs) ys a b = sizes_both xs ys a b
   sizes_both (Global s n ∷ xs) ys a b = sizes_both xs ys a b
   sizes_both (Left s m ∷ xs) ys a b = sizes_both xs ys a b
   sizes_both (Returned s m ∷ xs) ys a b = sizes_both xs ys a b

@@ -6,7 +6,7 @@ use Rattle.os_ast.specs.ClauseParts.{ClausePart, Item, Private, count_items}
 use Rattle.os_ast.specs.declared.names.Resolved.{Resolved}
 use Rattle.os_code.specs.declared.site.Site.{Site}
 use Rattle.lowering_relation.specs.Programs.{HasTask}
-use Rattle.lowering_relation.specs.Tasks.{TaskTree, number_of, site_items}
+use Rattle.lowering_relation.specs.Tasks.{TaskTree, task_index, site_items}
 use Rattle.lowering_relation.proofs.Homes.{Home, AreSpawned}
 use Rattle.lowering_relation.proofs.TaskMarks.{Rises, place_of, position_is}
 
@@ -19,7 +19,7 @@ items_length tells (Item d i ∷ ps) = ap suc (items_length tells ps)
 pub none_spawned : (h : Home) → h.body.tasks ≡ [] → (ts : List TaskTree) → AreSpawned h ts
 none_spawned h none [] = tt
 none_spawned h none (t ∷ ts) = (
-  λ number is. let bad : None ≡ Some number = sym (ap (λ all. number_of all t.mark) none) ∙ is in absurd (cc),
+  λ number is. let bad : None ≡ Some number = sym (ap (λ all. task_index all t.mark) none) ∙ is in absurd (cc),
   none_spawned h none ts,
 )
 

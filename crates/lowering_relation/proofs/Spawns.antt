@@ -2,7 +2,7 @@
 use Rattle.std.proofs.Common.{◌≡◌, ℕ, ◌+◌, ◌*◌, ◌≤◌, Bool, true, false, if◌then◌else◌, leb, ltb, List, [], ◌∷◌, ◌++◌, length, map, Option, Some, None, Ok, ℤ, refl, sym, ap, ◌∙◌, subst, arith}
 use Rattle.c_int.specs.declared.control_limit.ControlLimit.TheVariants as limits
 use Rattle.c_int.specs.declared.control_limit.ControlLimit.{ControlLimit}
-use Rattle.cddf_meaning.specs.Claims.{with_skips, horizons, all_horizons, limit}
+use Rattle.cddf_meaning.specs.Claims.{with_skips, all_horizons, limit}
 use Rattle.cddf_meaning.specs.File.{File, variable, or_in_file}
 use Rattle.cddf_meaning.specs.Moves.{CallsFall}
 use Rattle.cddf_meaning.specs.BodyState.{BodyState}
@@ -12,7 +12,7 @@ use Rattle.cddf_meaning.specs.declared.ending.Ending.TheVariants as ending
 use Rattle.cddf_meaning.specs.declared.site.Site.{Site as MeaningSite}
 use Rattle.flow_core_laws.specs.declared.activation.Activation.{Activation}
 use Rattle.flow_core_laws.specs.declared.claim.Claim.{Claim}
-use Rattle.flow_core_laws.specs.Window.{claims_of}
+use Rattle.flow_core_laws.specs.Window.{claims_of, horizon_sum}
 use Rattle.os_ast.specs.Captured.{Scalar, captured, slots_of}
 use Rattle.os_ast.specs.Names.{Scope, lookup, entity_of}
 use Rattle.os_ast.specs.Notes.Clauses.{in_task_body, parts_notes, clauses_notes}
@@ -30,10 +30,10 @@ use Rattle.os_code.specs.declared.instr.Instr.TheVariants as instr
 use Rattle.os_code.specs.declared.parts.Parts.{Parts}
 use Rattle.os_code.specs.declared.site.Site.{Site}
 use Rattle.os_code.specs.Machine as machine
-use Rattle.os_code.specs.Machine.{Frame, Progress, Going, Halted, Limited, slot, or_stuck, horizon_sum, claims_with_skips, skips_after_all, spawned_claims, spawns_claims, spawns, act, step}
+use Rattle.os_code.specs.Machine.{Frame, Progress, Going, Halted, Limited, slot, or_stuck, claims_with_skips, skips_after_all, spawned_claims, spawns_claims, spawns, act, step}
 use Rattle.os_code.specs.Parts.{instr_at, site_at}
 use Rattle.lowering_relation.specs.Alignment.{slot_at}
-use Rattle.lowering_relation.specs.Tasks.{TaskTree, number_of, site_items}
+use Rattle.lowering_relation.specs.Tasks.{TaskTree, task_index, site_items}
 use Rattle.lowering_relation.proofs.Capturing.{HasSlot, AreScalars, captured_scalars}
 use Rattle.lowering_relation.proofs.Context.{InMain, resources, Kept, Context, tells, agree_first}
 use Rattle.lowering_relation.proofs.Created.{sums_same, skipped_sum, same_claims, below_more}
@@ -52,7 +52,7 @@ use Rattle.window_check_laws.specs.Order.{InOrder}
 pub record IsSite (code : Parts) (tells : ℕ → Resolved) (sites : List MeaningSite) (tasks : List TaskTree) (s : Scope) (mark : Mark) (cs : List tree.ClauseTree) (a : tree.StmtTree) : Type 0 where
   pub number : ℕ
   pub site : Site
-  pub in_code : number_of tasks mark ≡ Some number
+  pub in_code : task_index tasks mark ≡ Some number
   pub in_meaning : task_number sites mark ≡ Some number
   pub ids : captured_by sites number ≡ map (λ (x : Scalar). x.id) (captured s.entries (parts cs) a)
   pub is_site : site_at code number ≡ Some site
@@ -151,9 +151,9 @@ module _ (code : Parts) (file : File) (falls : CallsFall file) (names : List Res
       pub spawn_does : Does code before (settled c callers leaves total next broke continued stack (exactly es) es) (unless_limited (limit st.activations claims) st turns (with_activation file number ids claims st))
       spawn_does =
           let a : leb 65536 (length m.created) ≡ leb 65536 (length st.activations) = ap (λ (xs : List Activation). leb 65536 (length xs)) (sym ready.kept.0) in
-          let b : ltb 4194304 (horizon_sum (claims_of m.created) + horizon_sum (claims_with_skips m.skips claims)) ≡ ltb 4194304 (all_horizons st.activations + horizons claims) =
+          let b : ltb 4194304 (horizon_sum (claims_of m.created) + horizon_sum (claims_with_skips m.skips claims)) ≡ ltb 4194304 (all_horizons st.activations + horizon_sum claims) =
           ap (λ n. ltb 4194304 (n + horizon_sum (claims_with_skips m.skips claims))) (sums_same m.created ∙ ap all_horizons (sym ready.kept.0)) ∙ ap (λ n. ltb 4194304 (all_horizons st.activations + n)) (skipped_sum claims m.skips) in
-          by_limits (leb 65536 (length st.activations)) (ltb 4194304 (all_horizons st.activations + horizons claims))
+          by_limits (leb 65536 (length st.activations)) (ltb 4194304 (all_horizons st.activations + horizon_sum claims))
           (spawn_step ∙ ap (λ t. unless_passed t (ltb 4194304 (horizon_sum (claims_of m.created) + horizon_sum (claims_with_skips m.skips claims)))) a ∙ ap (unless_passed (leb 65536 (length st.activations))) b)
 
   pub task_does : (mark : Mark) (cs : List tree.ClauseTree) (a : tree.StmtTree) → StmtDoes c callers leaves total sites tasks site_known (tree.Task mark cs a)

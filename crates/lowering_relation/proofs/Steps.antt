@@ -1,8 +1,7 @@
 -- Runs of the machine that follow an answer of the meaning.
 use Rattle.std.proofs.Common.{◌≡◌, ℕ, suc, ◌+◌, ◌<◌, arith, Bool, true, false, if◌then◌else◌, List, [], ◌∷◌, length, Some, None, Ok, Err, Result, ltb, ℤ, pos, negsuc, refl, sym, ap, ◌∙◌, subst}
 use Rattle.std.specs.Prelude.{slice_set, slice_index_or}
-use Rattle.c_int.specs.Operators.{is_zero}
-use Rattle.c_int.specs.Operators as c_int
+use Rattle.c_int.specs.Operators.{is_zero, unary_value, binary_value}
 use Rattle.c_int.specs.declared.operators.Binary as int_binary
 use Rattle.c_int.specs.declared.operators.Unary as int_unary
 use Rattle.c_int.specs.declared.trap.Trap.TheVariants as trap_of
@@ -195,7 +194,7 @@ module _ (code : Parts) where
         by_case false z = meets_from (branch p to v stack m turns false z is) b
 
     -- an operator
-    unary_gives : (r : Result ℤ OperatorTrap) (op : int_unary.Unary) (line p : ℕ) (v : ℤ) (stack : List ℤ) (m : Store) (turns : ℕ) → c_int.unary_value op v ≡ r →
+    unary_gives : (r : Result ℤ OperatorTrap) (op : int_unary.Unary) (line p : ℕ) (v : ℤ) (stack : List ℤ) (m : Store) (turns : ℕ) → unary_value op v ≡ r →
         instr_at code p ≡ Some (instr.Unary op line) →
         Meets (at callers p (v ∷ stack) m turns) (pushed callers (p + 1) stack m) (with_turns turns (at_line line r))
     unfolding act
@@ -205,10 +204,10 @@ module _ (code : Parts) where
         halts (stops_at (ending.Trapped (trap_of.Operator trap) line) (acts (at callers p (v ∷ stack) m turns) (instr.Unary op line) is ∙ ap (λ x. or_its_trap (at callers p (v ∷ stack) m turns) line x (λ value. Going (at callers (p + 1) (value ∷ stack) m turns))) r))
 
     pub unary_step : (op : int_unary.Unary) (line p : ℕ) (v : ℤ) (stack : List ℤ) (m : Store) (turns : ℕ) → instr_at code p ≡ Some (instr.Unary op line) →
-        Meets (at callers p (v ∷ stack) m turns) (pushed callers (p + 1) stack m) (with_turns turns (at_line line (c_int.unary_value op v)))
-    unary_step op line p v stack m turns is = unary_gives (c_int.unary_value op v) op line p v stack m turns refl is
+        Meets (at callers p (v ∷ stack) m turns) (pushed callers (p + 1) stack m) (with_turns turns (at_line line (unary_value op v)))
+    unary_step op line p v stack m turns is = unary_gives (unary_value op v) op line p v stack m turns refl is
 
-    binary_gives : (r : Result ℤ OperatorTrap) (op : int_binary.Binary) (line p : ℕ) (a b : ℤ) (stack : List ℤ) (m : Store) (turns : ℕ) → c_int.binary_value op a b ≡ r →
+    binary_gives : (r : Result ℤ OperatorTrap) (op : int_binary.Binary) (line p : ℕ) (a b : ℤ) (stack : List ℤ) (m : Store) (turns : ℕ) → binary_value op a b ≡ r →
         instr_at code p ≡ Some (instr.Binary op line) →
         Meets (at callers p (b ∷ a ∷ stack) m turns) (pushed callers (p + 1) stack m) (with_turns turns (at_line line r))
     unfolding act
@@ -218,5 +217,5 @@ module _ (code : Parts) where
         halts (stops_at (ending.Trapped (trap_of.Operator trap) line) (acts (at callers p (b ∷ a ∷ stack) m turns) (instr.Binary op line) is ∙ ap (λ x. or_its_trap (at callers p (b ∷ a ∷ stack) m turns) line x (λ value. Going (at callers (p + 1) (value ∷ stack) m turns))) r))
 
     pub binary_step : (op : int_binary.Binary) (line p : ℕ) (a b : ℤ) (stack : List ℤ) (m : Store) (turns : ℕ) → instr_at code p ≡ Some (instr.Binary op line) →
-        Meets (at callers p (b ∷ a ∷ stack) m turns) (pushed callers (p + 1) stack m) (with_turns turns (at_line line (c_int.binary_value op a b)))
-    binary_step op line p a b stack m turns is = binary_gives (c_int.binary_value op a b) op line p a b stack m turns refl is
+        Meets (at callers p (b ∷ a ∷ stack) m turns) (pushed callers (p + 1) stack m) (with_turns turns (at_line line (binary_value op a b)))
+    binary_step op line p a b stack m turns is = binary_gives (binary_value op a b) op line p a b stack m turns refl is

@@ -20,7 +20,7 @@ use Rattle.lowering_relation.proofs.Static.{items_streams, declarator_onward, de
 use Rattle.window_check_laws.specs.Told.{AreLawful}
 use Rattle.window_check_laws.proofs.Told.{lawful-first, lawful-rest}
 
--- in `main` at least so many scopes are round it
+-- in `main` at least `depth` scopes are round it
 abbrev pub AtLeast : ℕ → Scope → Type 0
 AtLeast depth s = s.owner ≡ owner.OfMain → depth ≤ s.depth
 

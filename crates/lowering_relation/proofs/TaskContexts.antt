@@ -11,7 +11,7 @@ use Rattle.os_ast.specs.Captured.{Scalar, captured, slots_of}
 use Rattle.os_ast.specs.FreeNames.{task_names}
 use Rattle.os_ast.specs.Names.{Scope, lookup, entity_of, declare, flag_of, flagged}
 use Rattle.os_ast.specs.Notes.Clauses.{item_entity, with_items, in_task, captured_in, in_task_body, item_flag}
-use Rattle.os_ast.specs.Notes.Kinds.{Note, Used, Sized, Declared, Given, Global, Left, Returned, Pragma, Task, Listed}
+use Rattle.os_ast.specs.Notes.Kinds.{Note, Used, Sized, Declared, Parameter, Global, Left, Returned, Pragma, Task, Listed}
 use Rattle.os_ast.specs.Notes.Statements.{stmt_notes}
 use Rattle.os_ast.specs.ClauseParts.{ClausePart, Item, Private, parts, item_name, is_in, private_ids}
 use Rattle.os_ast.specs.Rules.{is_changed, is_misplaced_stream, is_misplaced_window}
@@ -200,7 +200,7 @@ pub note_besides : (slots : List ℕ) (n : Note) → ((x : ℕ) → is_in x (nam
 note_besides slots (Used s n u) h = h
 note_besides slots (Sized s n) h = tt
 note_besides slots (Declared s d) h = tt
-note_besides slots (Given s n) h = tt
+note_besides slots (Parameter s n) h = tt
 note_besides slots (Global s n) h = tt
 note_besides slots (Left s m) h = tt
 note_besides slots (Returned s m) h = tt

@@ -34,13 +34,13 @@ use Rattle.os_ast.specs.declared.names.Owner.TheVariants as owner
 use Rattle.os_ast.specs.declared.program.Param.{Param}
 use Rattle.os_code.specs.declared.parts.Parts.{Parts}
 use Rattle.os_code.specs.declared.site.Site.{Site}
-use Rattle.os_code.specs.declared.unit.Unit.{Unit as CodeUnit}
+use Rattle.os_code.specs.declared.unit.CodeUnit.{CodeUnit}
 use Rattle.os_code.specs.Machine.{Runs}
 use Rattle.os_code.specs.Outcomes as machine
 use Rattle.os_code.specs.Parts.{unit_at, site_at}
 use Rattle.os_code.specs.Tasks.{Fits, TaskOutcome, TaskEnds, task_start}
 use Rattle.os_code.proofs.Halting.{tasks_end, runs_are_one, task_ends_are_one}
-use Rattle.lowering_relation.specs.Laws.{StandsFor}
+use Rattle.lowering_relation.specs.Laws.{CodeStandsFor}
 use Rattle.lowering_relation.specs.Names.{told_at}
 use Rattle.lowering_relation.specs.Programs.{HasTask}
 use Rattle.lowering_relation.specs.Tasks.{program_tasks, all_tasks_of}
@@ -116,7 +116,7 @@ get_front [] ys k x h = absurd (cc)
 get_front (y ∷ xs) ys zero x h = h
 get_front (y ∷ xs) ys (suc k) x h = get_front xs ys k x h
 
-module _ (p : tree.ProgramTree) (code : Parts) (a : Activation) (inputs : List ℤ) (budget : ℕ) (stands : StandsFor code p) (fits : Fits code a) (enough : read_horizons a.claims ≤ length inputs) where
+module _ (p : tree.ProgramTree) (code : Parts) (a : Activation) (inputs : List ℤ) (budget : ℕ) (stands : CodeStandsFor code p) (fits : Fits code a) (enough : read_horizons a.claims ≤ length inputs) where
   abbrev Ends : Outcome → Type 0
   Ends out = (steps : ℕ) × TaskEnds code a inputs budget out steps
 
@@ -127,7 +127,7 @@ module _ (p : tree.ProgramTree) (code : Parts) (a : Activation) (inputs : List �
       let same_site : t.ends.site ≡ site = let x : Some t.ends.site ≡ Some site = sym t.ends.is_site ∙ is_site in cc in
       let same_unit : t.ends.unit ≡ unit = let x : Some t.ends.unit ≡ Some unit = sym t.ends.is_unit ∙ ap (λ (y : Site). unit_at code y.unit) same_site ∙ is_unit in cc in
       let one = runs_are_one code (task_start unit a inputs budget) h.last t.ends.last (halt_of e) t.ends.halt h.steps t.steps h.runs (subst (λ y. Runs code (task_start y a inputs budget) t.ends.halt t.ends.last t.steps) same_unit t.ends.runs) in
-      no_limit t.ends.site.line n t.ends.halt t.ends.last (machine.task_outcome code a inputs budget) t.ends.ends (sym one.0 ∙ ap halt_of is)
+      no_limit t.ends.site.line n t.ends.halt t.ends.last (machine.code_outcome code a inputs budget) t.ends.ends (sym one.0 ∙ ap halt_of is)
 
   by_main : (m : Main) → scoped_main p ≡ Some m → Ends (outcome_in (Some m) a inputs budget)
   by_main m is_main = (

@@ -18,6 +18,7 @@ use Rattle.cddf_meaning.specs.declared.ending.Ending.{Ending}
 use Rattle.cddf_meaning.specs.declared.ending.Ending.TheVariants as ending
 use Rattle.cddf_meaning.specs.Scoped.{scoped_task_at}
 use Rattle.cddf_meaning.specs.declared.flow.Flow.TheVariants.{GoesOn, Breaks, Continues, Returns}
+use Rattle.flow_core_laws.specs.Outcome.{trapped}
 use Rattle.flow_core_laws.specs.declared.activation.Activation.{Activation}
 use Rattle.flow_core_laws.specs.declared.claim.Claim.{Claim}
 use Rattle.flow_core_laws.specs.declared.outcome.Outcome.{Outcome}
@@ -36,7 +37,7 @@ use Rattle.os_code.specs.declared.site.SiteItem.{SiteItem}
 use Rattle.os_code.specs.Machine as machine
 use Rattle.os_code.specs.Machine.{Halt, Trapped, OverBudget, Limited, frame_slots, act, step, Runs, Halts}
 use Rattle.os_code.specs.Parts.{instr_at}
-use Rattle.os_code.specs.Tasks.{ClaimFits, Fits, TaskOutcome, IsDone, SendsNoByte, IsTrapped, IsOver, TaskEnds, task_start, windows_of}
+use Rattle.os_code.specs.Tasks.{ClaimFits, Fits, TaskOutcome, IsDone, SendsNoByte, IsTrapped, IsOver, TaskEnds, task_start, task_windows}
 use Rattle.os_code.specs.Tasks as tasks
 use Rattle.lowering_relation.specs.Alignment.{Stacked, slot_at, Aligned}
 use Rattle.lowering_relation.specs.Names.{told_at}
@@ -86,7 +87,7 @@ to_end code s last (steps {t = t} a l) is = let r = to_end code t last l is in (
 
 at_end : (code : Parts) (line : ℕ) (claims : List Claim) (m : Store) (items : List (List ℤ)) (s : machine.MachineState) (q turns : ℕ) (stack : List ℤ) → Leads code s (at [] q stack m turns) → instr_at code q ≡ Some instr.End →
     map (λ (w : machine.TaskWindow). w.claim) m.windows ≡ claims → Windows m.windows items →
-    EndsIn code line s (if meaning.gives_bytes claims items then meaning.done (meaning.outputs_of claims items) else meaning.trapped (trap_code trap_of.NoByte) line)
+    EndsIn code line s (if meaning.gives_bytes claims items then meaning.done (meaning.outputs_of claims items) else trapped (trap_code trap_of.NoByte) line)
 at_end code line claims m items s q turns stack l is same windows = by_case (meaning.gives_bytes claims items) refl
   where
     last : machine.MachineState
@@ -98,10 +99,10 @@ at_end code line claims m items s q turns stack l is same windows = by_case (mea
     bytes : meaning.gives_bytes claims items ≡ list_all tasks.sends_bytes m.windows
     bytes = subst (λ cs. meaning.gives_bytes cs items ≡ list_all tasks.sends_bytes m.windows) same (same_bytes m.windows items windows)
 
-    out : meaning.outputs_of claims items ≡ tasks.written m.windows
-    out = subst (λ cs. meaning.outputs_of cs items ≡ tasks.written m.windows) same (same_written m.windows items windows)
+    out : meaning.outputs_of claims items ≡ tasks.written_elements m.windows
+    out = subst (λ cs. meaning.outputs_of cs items ≡ tasks.written_elements m.windows) same (same_written m.windows items windows)
 
-    by_case : (t : Bool) → meaning.gives_bytes claims items ≡ t → EndsIn code line s (if t then meaning.done (meaning.outputs_of claims items) else meaning.trapped (trap_code trap_of.NoByte) line)
+    by_case : (t : Bool) → meaning.gives_bytes claims items ≡ t → EndsIn code line s (if t then meaning.done (meaning.outputs_of claims items) else trapped (trap_code trap_of.NoByte) line)
     by_case true e = record {
       halt = machine.Ended;
       last = at [] q stack m turns;
@@ -152,7 +153,7 @@ module _ (code : Parts) (file : File) (falls : CallsFall file) (rs : List Resolv
   these = scoped_task_at there.scope there.mark there.clauses there.body
 
   abbrev m0 : Store
-  m0 = record { slots = frame_slots has.unit a.captured; windows = windows_of a.claims inputs; created = []; skips = [] }
+  m0 = record { slots = frame_slots has.unit a.captured; windows = task_windows a.claims inputs; created = []; skips = [] }
 
   abbrev begun : BodyState
   begun = state_of (bound_round these a.captured) (item_lists a.claims inputs)

@@ -27,7 +27,7 @@ use Rattle.os_ast.specs.declared.names.What.{What}
 use Rattle.os_ast.specs.declared.names.What.TheVariants as what
 use Rattle.os_code.specs.Machine.{TaskWindow}
 use Rattle.os_code.specs.Tasks as machine
-use Rattle.os_code.specs.Tasks.{windows_of}
+use Rattle.os_code.specs.Tasks.{task_windows}
 use Rattle.lowering_relation.specs.Alignment.{Takes, Stacked, slot_at, Resources, Aligned}
 use Rattle.lowering_relation.proofs.Capturing.{HasSlot, AreScalars, at_place}
 use Rattle.lowering_relation.proofs.Context.{InTask, resources, Windows}
@@ -136,12 +136,12 @@ abbrev pub AllSome : List Claim → Type 0
 AllSome [] = ⊤
 AllSome (c ∷ cs) = (1 ≤ c.horizon) × AllSome cs
 
-pub windows_start : (claims : List Claim) (inputs : List ℤ) → AllSome claims → read_horizons claims ≤ length inputs → Windows (windows_of claims inputs) (item_lists claims inputs)
+pub windows_start : (claims : List Claim) (inputs : List ℤ) → AllSome claims → read_horizons claims ≤ length inputs → Windows (task_windows claims inputs) (item_lists claims inputs)
 windows_start [] inputs some enough = tt
 windows_start (c ∷ cs) inputs some enough = by_case c.write enough (λ ins h. windows_start cs ins some.1 h)
   where
-    by_case : (t : Bool) → (if t then 0 else c.horizon) + read_horizons cs ≤ length inputs → ((ins : List ℤ) → read_horizons cs ≤ length ins → Windows (windows_of cs ins) (item_lists cs ins)) →
-        Windows (if t then record { claim = c; elements = replicate c.horizon (pos 0) } ∷ windows_of cs inputs else record { claim = c; elements = take c.horizon inputs } ∷ windows_of cs (drop c.horizon inputs))
+    by_case : (t : Bool) → (if t then 0 else c.horizon) + read_horizons cs ≤ length inputs → ((ins : List ℤ) → read_horizons cs ≤ length ins → Windows (task_windows cs ins) (item_lists cs ins)) →
+        Windows (if t then record { claim = c; elements = replicate c.horizon (pos 0) } ∷ task_windows cs inputs else record { claim = c; elements = take c.horizon inputs } ∷ task_windows cs (drop c.horizon inputs))
         (if t then replicate c.horizon (pos 0) ∷ item_lists cs inputs else take c.horizon inputs ∷ item_lists cs (drop c.horizon inputs))
     by_case true enough next =
         let n : length (replicate c.horizon (pos 0)) ≡ c.horizon = length-replicate c.horizon (pos 0) in
@@ -151,24 +151,24 @@ windows_start (c ∷ cs) inputs some enough = by_case c.write enough (λ ins h. 
         let k : length (drop c.horizon inputs) ≡ length inputs - c.horizon = length-drop c.horizon inputs in
         (refl, sym n, omega (arith, n, some.0), next (drop c.horizon inputs) (omega (arith, k, enough)))
 
-pub claims_start : (claims : List Claim) (inputs : List ℤ) → map (λ (w : TaskWindow). w.claim) (windows_of claims inputs) ≡ claims
+pub claims_start : (claims : List Claim) (inputs : List ℤ) → map (λ (w : TaskWindow). w.claim) (task_windows claims inputs) ≡ claims
 claims_start [] inputs = refl
 claims_start (c ∷ cs) inputs = by_case c.write (λ ins. claims_start cs ins)
   where
-    by_case : (t : Bool) → ((ins : List ℤ) → map (λ (w : TaskWindow). w.claim) (windows_of cs ins) ≡ cs) →
-        map (λ (w : TaskWindow). w.claim) (if t then record { claim = c; elements = replicate c.horizon (pos 0) } ∷ windows_of cs inputs else record { claim = c; elements = take c.horizon inputs } ∷ windows_of cs (drop c.horizon inputs)) ≡ c ∷ cs
+    by_case : (t : Bool) → ((ins : List ℤ) → map (λ (w : TaskWindow). w.claim) (task_windows cs ins) ≡ cs) →
+        map (λ (w : TaskWindow). w.claim) (if t then record { claim = c; elements = replicate c.horizon (pos 0) } ∷ task_windows cs inputs else record { claim = c; elements = take c.horizon inputs } ∷ task_windows cs (drop c.horizon inputs)) ≡ c ∷ cs
     by_case true next = ap (λ xs. c ∷ xs) (next inputs)
     by_case false next = ap (λ xs. c ∷ xs) (next (drop c.horizon inputs))
 
 -- what was written
-pub same_written : (ws : List TaskWindow) (items : List (List ℤ)) → Windows ws items → meaning.outputs_of (map (λ (w : TaskWindow). w.claim) ws) items ≡ machine.written ws
+pub same_written : (ws : List TaskWindow) (items : List (List ℤ)) → Windows ws items → meaning.outputs_of (map (λ (w : TaskWindow). w.claim) ws) items ≡ machine.written_elements ws
 same_written [] [] h = refl
 same_written [] (vs ∷ items) h = elim h [ ]
 same_written (w ∷ ws) [] h = elim h [ ]
 same_written (w ∷ ws) (vs ∷ items) h = by_case w.claim.write (same_written ws items h.3)
   where
-    by_case : (t : Bool) → meaning.outputs_of (map (λ (w : TaskWindow). w.claim) ws) items ≡ machine.written ws →
-        (if t then vs ++ meaning.outputs_of (map (λ (w : TaskWindow). w.claim) ws) items else meaning.outputs_of (map (λ (w : TaskWindow). w.claim) ws) items) ≡ (if t then w.elements else []) ++ machine.written ws
+    by_case : (t : Bool) → meaning.outputs_of (map (λ (w : TaskWindow). w.claim) ws) items ≡ machine.written_elements ws →
+        (if t then vs ++ meaning.outputs_of (map (λ (w : TaskWindow). w.claim) ws) items else meaning.outputs_of (map (λ (w : TaskWindow). w.claim) ws) items) ≡ (if t then w.elements else []) ++ machine.written_elements ws
     by_case true next = ap (λ xs. xs ++ meaning.outputs_of (map (λ (w : TaskWindow). w.claim) ws) items) (sym h.0) ∙ ap (λ xs. w.elements ++ xs) next
     by_case false next = next
 

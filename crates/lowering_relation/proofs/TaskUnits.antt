@@ -6,7 +6,7 @@ use Rattle.cddf_meaning.specs.Tasks.{Task as MeaningTask}
 use Rattle.os_ast.specs.Captured.{Scalar, captured, slots_of}
 use Rattle.os_ast.specs.Names.{Scope, lookup, entity_of}
 use Rattle.os_ast.specs.Notes.Clauses.{named_entity, item_entity, in_task, captured_in, in_task_body, item_flag}
-use Rattle.os_ast.specs.Notes.Kinds.{Note, Used, Sized, Declared, Given, Global, Left, Returned, Pragma, Task, Listed}
+use Rattle.os_ast.specs.Notes.Kinds.{Note, Used, Sized, Declared, Parameter, Global, Left, Returned, Pragma, Task, Listed}
 use Rattle.os_ast.specs.Notes.Statements.{after_stmt, stmt_notes}
 use Rattle.os_ast.specs.ClauseParts.{ClausePart, Item, Private, parts, item_name, is_in, private_ids}
 use Rattle.os_ast.specs.Trees as tree
@@ -113,7 +113,7 @@ caught : (slots : List ℕ) (n : Note) → Besides slots n → Catches owner.OfT
 caught slots (Used s n u) h = h
 caught slots (Sized s n) h = tt
 caught slots (Declared s d) h = tt
-caught slots (Given s n) h = tt
+caught slots (Parameter s n) h = tt
 caught slots (Global s n) h = tt
 caught slots (Left s m) h = tt
 caught slots (Returned s m) h = tt

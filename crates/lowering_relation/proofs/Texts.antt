@@ -5,10 +5,10 @@ use Rattle.std.specs.List.{position_or_len}
 use Rattle.std.specs.Prelude.{⊤, ◌⊎◌, All, unwrap_or, nat_lt, cond, ltb}
 use Rattle.os_ast.specs.Captured.{slots_of}
 use Rattle.os_ast.specs.Limits.{items_limit, captured_limit}
-use Rattle.os_ast.specs.Meanings.{meaning, meaning_in, place_in}
+use Rattle.os_ast.specs.Meanings.{what_declared, meaning_in, place_in}
 use Rattle.os_ast.specs.Names.{Scope, lookup, entity_of, main_id, flag_of}
 use Rattle.os_ast.specs.Notes.Declarators.{declared_entity, form_with, form_entity, scalar_entity, sized_form, taken, after_declarator, size_of}
-use Rattle.os_ast.specs.Notes.Kinds.{Note, Used, Sized, Declared, Given, Global, Left, Returned, Pragma, Task, Listed}
+use Rattle.os_ast.specs.Notes.Kinds.{Note, Used, Sized, Declared, Parameter, Global, Left, Returned, Pragma, Task, Listed}
 use Rattle.os_ast.specs.ClauseParts.{is_in}
 use Rattle.os_ast.specs.Rules.{UseRule, violates, if_declared, is_wrong_kind, has_other_count, is_changed, is_main_body, is_misplaced_window, is_a_window, is_fixed}
 use Rattle.os_ast.specs.Trees as tree
@@ -164,7 +164,7 @@ place_within xs slot is = by_test (position_or_len (λ s. s == slot) xs) (nat_lt
     by_test n false e = omega (arith, some xs is)
 
 -- what a declaration means in a body: itself, or a captured scalar
-same_meaning : (o : Owner) (slots : List ℕ) (d : Entity) → (meaning_in o slots d ≡ meaning d) ⊎ ((slot : ℕ) × (meaning_in o slots d ≡ what.Scalar slot))
+same_meaning : (o : Owner) (slots : List ℕ) (d : Entity) → (meaning_in o slots d ≡ what_declared d) ⊎ ((slot : ℕ) × (meaning_in o slots d ≡ what.Scalar slot))
 same_meaning owned.OfMain slots d = inl refl
 same_meaning owned.OfFunction slots d = inl refl
 same_meaning owned.OfTask slots (entity.Constant v) = inl refl
@@ -180,7 +180,7 @@ same_meaning owned.OfTask slots (entity.Element item d) = inl refl
 same_meaning owned.OfTask slots (entity.View item d) = inl refl
 
 module _ (h : Home) (id : ℕ) where
-  fits_main : (d : Entity) → May h owned.OfMain id d → Fits h (meaning d)
+  fits_main : (d : Entity) → May h owned.OfMain id d → Fits h (what_declared d)
   fits_main (entity.Constant v) may = tt
   fits_main (entity.Function number params) may = tt
   fits_main (entity.Scalar slot) may = may
@@ -193,7 +193,7 @@ module _ (h : Home) (id : ℕ) where
   fits_main (entity.Element item d) may = may.0
   fits_main (entity.View item d) may = may.0
 
-  fits_function : (d : Entity) → May h owned.OfFunction id d → Fits h (meaning d)
+  fits_function : (d : Entity) → May h owned.OfFunction id d → Fits h (what_declared d)
   fits_function (entity.Constant v) may = tt
   fits_function (entity.Function number params) may = tt
   fits_function (entity.Scalar slot) may = may
@@ -228,7 +228,7 @@ module _ (h : Home) (id : ℕ) where
   fits_in owned.OfTask slots d few other caught may = fits_task slots d (few refl) (other refl) (caught refl) may
 
   -- what may be changed is an output
-  output_own : (o : Owner) (s : Shape) (d : Entity) → is_fixed d ≡ false → May h o id d → IsOutput h (meaning d)
+  output_own : (o : Owner) (s : Shape) (d : Entity) → is_fixed d ≡ false → May h o id d → IsOutput h (what_declared d)
   output_own o s (entity.Constant v) free may = tt
   output_own o s (entity.Function number params) free may = tt
   output_own o s (entity.Scalar slot) free may = tt
@@ -246,7 +246,7 @@ module _ (h : Home) (id : ℕ) where
   output_in : (o : Owner) (slots : List ℕ) (s : Shape) (d : Entity) → is_fixed d ≡ false → May h o id d → IsOutput h (meaning_in o slots d)
   output_in o slots s d free may = by_meaning (same_meaning o slots d)
     where
-      by_meaning : (meaning_in o slots d ≡ meaning d) ⊎ ((slot : ℕ) × (meaning_in o slots d ≡ what.Scalar slot)) → IsOutput h (meaning_in o slots d)
+      by_meaning : (meaning_in o slots d ≡ what_declared d) ⊎ ((slot : ℕ) × (meaning_in o slots d ≡ what.Scalar slot)) → IsOutput h (meaning_in o slots d)
       by_meaning (inl e) = subst (IsOutput h) (sym e) (output_own o s d free may)
       by_meaning (inr (slot, e)) = subst (IsOutput h) (sym e) tt
 
@@ -270,7 +270,7 @@ module _ (h : Home) (id : ℕ) where
   called_in o slots args (entity.View item d) kind count may = absurd (cc)
 
   flow_main : (d : Direction) (s : Shape) (e : Entity) → is_wrong_kind id (usage.Place (role.Flow d) s) e ≡ false → May h owned.OfMain id e →
-      first_of (meaning e) < h.code.streams
+      first_of (what_declared e) < h.code.streams
   flow_main d s (entity.Stream number) kind may = may
   flow_main d s (entity.Streams first size) kind may = may
   flow_main d s (entity.Function number params) kind may = absurd (cc)
@@ -352,19 +352,19 @@ module _ (t : Text) where
   main_kind owned.OfTask e h = absurd (cc)
 
   -- what is declared fits where its slots do
-  scalar_fits : (o : Owner) (slot : ℕ) → slot + 1 ≤ t.home.slots → Fits t.home (meaning (scalar_entity o slot))
+  scalar_fits : (o : Owner) (slot : ℕ) → slot + 1 ≤ t.home.slots → Fits t.home (what_declared (scalar_entity o slot))
   scalar_fits owned.OfMain slot le = le
   scalar_fits owned.OfFunction slot le = le
   scalar_fits owned.OfTask slot le = le
 
   sized_fits : (o : Owner) (s : Scope) (size : Option ℕ) → t.owner ≡ o → (taken s (sized_form o size)).slots ≤ t.home.slots →
-      Fits t.home (meaning (form_entity s (sized_form o size)))
+      Fits t.home (what_declared (form_entity s (sized_form o size)))
   sized_fits owned.OfMain s size e le = (t.in_main e, le)
   sized_fits owned.OfFunction s size e le = le
   sized_fits owned.OfTask s size e le = le
 
   form_fits : (s : Scope) (stream : Bool) (size : Option tree.IndexTree) → In t s → (taken s (form_with s stream size)).slots ≤ t.home.slots →
-      Fits t.home (meaning (form_entity s (form_with s stream size)))
+      Fits t.home (what_declared (form_entity s (form_with s stream size)))
   form_fits s true None is le = tt
   form_fits s true (Some i) is le = tt
   form_fits s false None is le = scalar_fits s.owner s.slots le
@@ -373,7 +373,7 @@ module _ (t : Text) where
   note_fits : (n : Note) → Scoped t n → KeepsAll rules n → AreIn t.names (resolutions_of n) → Catches t.owner t.captured n → FitsNote t.home n
   note_fits (Used s n u) scoped lawful told catches = told_use s n u scoped.0 scoped.1 lawful told catches
   note_fits (Declared s d) scoped lawful told catches = (
-    ap (λ f. (f d.name.mark.place).what) t.told ∙ ap (λ (r : Resolved). r.what) (told_is t.names d.name.mark.place (meaning (declared_entity s d)) s.unsigned t.ordered told.0),
+    ap (λ f. (f d.name.mark.place).what) t.told ∙ ap (λ (r : Resolved). r.what) (told_is t.names d.name.mark.place (what_declared (declared_entity s d)) s.unsigned t.ordered told.0),
     form_fits s d.stream d.size scoped.0 scoped.1,
   )
   note_fits (Pragma s m) scoped lawful told catches = main_kind s.owner (sym scoped.owner) lawful.1.1.1.1.1.1.1.0
@@ -385,7 +385,7 @@ module _ (t : Text) where
         scoped.1,
       )
   note_fits (Sized s n) scoped lawful told catches = tt
-  note_fits (Given s n) scoped lawful told catches = tt
+  note_fits (Parameter s n) scoped lawful told catches = tt
   note_fits (Global s n) scoped lawful told catches = tt
   note_fits (Left s m) scoped lawful told catches = tt
   note_fits (Returned s m) scoped lawful told catches = tt

@@ -1,13 +1,13 @@
 -- The heights and frames of a code whose units are fine.
 use Rattle.std.proofs.Common.{◌≡◌, ℕ, zero, suc, ◌+◌, ◌-◌, ◌<◌, ◌≤◌, Bool, true, false, if◌then◌else◌, Option, Some, None, refl, ap, ◌∙◌, subst, arith}
-use Rattle.os_code.specs.Effects.{operands_of, height_after, goes_on, slots_named}
+use Rattle.os_code.specs.Effects.{operands_of, height_after, falls_through, slots_named}
 use Rattle.os_code.specs.Heights.{HeightsFit}
 use Rattle.os_code.specs.IsValid.{HasInstr, HasFrames, HasHeights}
 use Rattle.os_code.specs.Parts.{instr_at, unit_at}
 use Rattle.os_code.specs.declared.instr.Instr.{Instr}
 use Rattle.os_code.specs.declared.instr.Instr.TheVariants as instr
 use Rattle.os_code.specs.declared.parts.Parts.{Parts}
-use Rattle.os_code.specs.declared.unit.Unit.{Unit as CodeUnit}
+use Rattle.os_code.specs.declared.unit.CodeUnit.{CodeUnit}
 use Rattle.os_code.proofs.HeightTables.{heights_suffice}
 use Rattle.lowering_relation.proofs.Heights.{height_at, behind, height_behind, one_more}
 use Rattle.lowering_relation.proofs.Homes.{Home, Suits}
@@ -55,7 +55,7 @@ module _ (code : Parts) (all : AreLaid code) where
   step_low : (p k : ℕ) (o : Option Instr) → height_at code p ≤ k → ((i : Instr) → o ≡ Some i → operands_of code i ≤ height_at code p) →
       behind code (height_at code p) o ≤ k + 1
   step_low p k None low enough = omega (arith, low)
-  step_low p k (Some i) low enough = by_case (goes_on i)
+  step_low p k (Some i) low enough = by_case (falls_through i)
     where
       by_case : (t : Bool) → (if t then height_after code i (height_at code p) else height_at code p - 1) ≤ k + 1
       by_case true = omega (arith, low, one_more code i (height_at code p) (enough i refl))

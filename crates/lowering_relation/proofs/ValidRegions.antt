@@ -10,7 +10,7 @@ use Rattle.os_code.specs.Parts.{instr_at, unit_at, region_end, is_within}
 use Rattle.os_code.specs.declared.instr.Instr.{Instr}
 use Rattle.os_code.specs.declared.instr.Instr.TheVariants as instr
 use Rattle.os_code.specs.declared.parts.Parts.{Parts}
-use Rattle.os_code.specs.declared.unit.Unit.{Unit as CodeUnit}
+use Rattle.os_code.specs.declared.unit.CodeUnit.{CodeUnit}
 use Rattle.os_code.proofs.Regions.{within, is_within-from}
 use Rattle.lowering_relation.specs.Tiling.{Tile}
 use Rattle.lowering_relation.proofs.Heights.{height_at}

@@ -13,7 +13,7 @@ use Rattle.cddf_meaning.specs.declared.ending.Ending.TheVariants as ending
 use Rattle.cddf_meaning.specs.declared.site.Site.{Site}
 use Rattle.cddf_meaning.specs.declared.variable.Binding.{Binding}
 use Rattle.cddf_meaning.specs.declared.variable.Variable.TheVariants.{Window}
-use Rattle.os_ast.specs.Meanings.{meaning}
+use Rattle.os_ast.specs.Meanings.{what_declared}
 use Rattle.os_ast.specs.Names.{Scope}
 use Rattle.os_ast.specs.Notes.Declarators.{sized_form, size_of, form, form_entity, taken, after_declarator, sized_notes, size_notes, is_window}
 use Rattle.os_ast.specs.Notes.Expressions.{expr_notes, value_notes}
@@ -121,7 +121,7 @@ module _ (code : Parts) (file : File) (falls : CallsFall file) (names : List Res
       room = subst (λ f. (taken s f).slots ≤ total) is_form fits2
 
       has : HasDeclared code (tells c) (what.Window s.slots) d from to
-      has = subst (λ w. HasDeclared code (tells c) w d from to) (told c callers leaves total sites s d agree ∙ ap (λ f. meaning (form_entity s f)) is_form) h
+      has = subst (λ w. HasDeclared code (tells c) w d from to) (told c callers leaves total sites s d agree ∙ ap (λ f. what_declared (form_entity s f)) is_form) h
 
       size_agrees : Agree c (expr_notes s i.value)
       size_agrees =

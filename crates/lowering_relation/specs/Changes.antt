@@ -41,7 +41,7 @@ is_quiet_two binary.Greater = true
 is_quiet_two binary.GreaterEqual = true
 is_quiet_two _ = false
 
--- An expression that can neither trap nor take a unit.
+-- An expression that can neither trap nor take a turn.
 abbrev mutual
   pub is_quiet : tree.ExprTree → Bool
   is_quiet (tree.Number n) = true

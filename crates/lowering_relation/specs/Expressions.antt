@@ -5,7 +5,7 @@ use Rattle.std.specs.Int.{w32, cast_signed}
 use Rattle.c_int.specs.Machine.{unary_for, binary_for}
 use Rattle.c_int.specs.declared.operators.Binary as int_binary
 use Rattle.c_int.specs.declared.operators.Unary.TheVariants as int_unary
-use Rattle.cddf_meaning.specs.Operators.{operator_of_one, operator_of_two, unary_value}
+use Rattle.cddf_meaning.specs.Operators.{operator_of_one, operator_of_two, unary_answer}
 use Rattle.cddf_meaning.specs.ExpressionTypes.{type_of, type_of_two}
 use Rattle.os_ast.specs.Trees as tree
 use Rattle.os_ast.specs.declared.expr.Binary.{Binary}
@@ -43,7 +43,7 @@ pub data HasUnary (code : Parts) (op : tree_unary.Unary) (line : ℕ) (unsigned 
     : (from to : ℕ) → Type 0 where
   operated : {from : ℕ} (end : ℕ) → has from end → instr_at code end ≡ Some (instr.Unary (unary_for unsigned (operator_of_one op)) line) →
       HasUnary code op line unsigned e has from (end + 1)
-  worked_out : {from n : ℕ} {v : ℤ} → e ≡ tree.Number n → unary_value op line false (pos n) ≡ Ok v → instr_at code from ≡ Some (Push v) →
+  worked_out : {from n : ℕ} {v : ℤ} → e ≡ tree.Number n → unary_answer op line false (pos n) ≡ Ok v → instr_at code from ≡ Some (Push v) →
       HasUnary code op line unsigned e has from (from + 1)
 
 -- An operator behind the number on its left, with the code of its right side, by the types of both. Two `!` make 1 of what isn't 0.

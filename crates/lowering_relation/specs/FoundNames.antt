@@ -39,7 +39,7 @@ MainFindsItsNames =
     (p : tree.ProgramTree) (m : Main) (more : List Binding) (input_len budget : ℕ) → IsLawful p → main_of p ≡ Some m → AreElse m.file more →
     control_of (run_all (round_main m) m.body (with_more more (control_state input_len)) budget) ≡ control p input_len budget
 
--- The same of the body of a task,
+-- A task's body, too, ends the same whatever else is in scope.
 abbrev pub TasksFindTheirNames : Type 0
 TasksFindTheirNames =
     (p : tree.ProgramTree) (m : Main) (t : Task) (more : List Binding) (a : Activation) (inputs : List ℤ) (budget : ℕ) → IsLawful p
@@ -48,7 +48,7 @@ TasksFindTheirNames =
     outcome t.mark.line a.claims (run (in_function m.file) t.body (with_more more (state_of (bound_round t a.captured) (item_lists a.claims inputs))) budget)
     ≡ body p a inputs budget
 
--- and of that of a function, behind the items that stand before it.
+-- And a function's body, behind the items that stand before it.
 abbrev pub FunctionsFindTheirNames : Type 0
 FunctionsFindTheirNames =
     (items rest : List tree.ItemTree) (f : tree.FunctionTree) (more : List Binding) (args : List ℤ) (turns : ℕ)

@@ -21,7 +21,7 @@ use Rattle.lowering_relation.specs.Programs.{HasProgram}
 use Rattle.lowering_relation.specs.Tiling.{IsTiled}
 
 -- A valid code stands for a lawful program.
-pub record StandsFor (code : Parts) (p : tree.ProgramTree) : Type 0 where
+pub record CodeStandsFor (code : Parts) (p : tree.ProgramTree) : Type 0 where
   pub leveled : IsLeveled p
   pub placed : HasPlaces p
   pub lawful : violations p ≡ []
@@ -30,24 +30,24 @@ pub record StandsFor (code : Parts) (p : tree.ProgramTree) : Type 0 where
 
 -- An activation that fits the code ends as the body of its task does, with the same code, line and outputs.
 abbrev pub TasksEndSo : Type 0
-TasksEndSo = (p : tree.ProgramTree) (code : Parts) (a : Activation) (inputs : List ℤ) (budget : ℕ) → StandsFor code p → Fits code a →
+TasksEndSo = (p : tree.ProgramTree) (code : Parts) (a : Activation) (inputs : List ℤ) (budget : ℕ) → CodeStandsFor code p → Fits code a →
     read_horizons a.claims ≤ length inputs → (steps : ℕ) × TaskEnds code a inputs budget (body p a inputs budget) steps
 
 -- And it ends in no other way.
 abbrev pub TasksEndOnlySo : Type 0
 TasksEndOnlySo =
-    (p : tree.ProgramTree) (code : Parts) (a : Activation) (inputs : List ℤ) (budget : ℕ) (outcome : Outcome) (steps : ℕ) → StandsFor code p
+    (p : tree.ProgramTree) (code : Parts) (a : Activation) (inputs : List ℤ) (budget : ℕ) (outcome : Outcome) (steps : ℕ) → CodeStandsFor code p
     → Fits code a →
     read_horizons a.claims ≤ length inputs → TaskEnds code a inputs budget outcome steps → outcome ≡ body p a inputs budget
 
 -- `main` creates the activations of the control program, and ends as it does.
 abbrev pub MainEndsSo : Type 0
-MainEndsSo = (p : tree.ProgramTree) (code : Parts) (input_len budget : ℕ) → StandsFor code p →
+MainEndsSo = (p : tree.ProgramTree) (code : Parts) (input_len budget : ℕ) → CodeStandsFor code p →
     (steps : ℕ) × ControlEnds code input_len budget (control p input_len budget) steps
 
 -- And it ends in no other way.
 abbrev pub MainEndsOnlySo : Type 0
-MainEndsOnlySo = (p : tree.ProgramTree) (code : Parts) (input_len budget : ℕ) (made : Control) (steps : ℕ) → StandsFor code p →
+MainEndsOnlySo = (p : tree.ProgramTree) (code : Parts) (input_len budget : ℕ) (made : Control) (steps : ℕ) → CodeStandsFor code p →
     ControlEnds code input_len budget made steps → made ≡ control p input_len budget
 
 -- Code that stands for a lawful program, with its units one behind another, is valid.

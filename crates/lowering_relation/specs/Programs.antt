@@ -11,7 +11,7 @@ use Rattle.os_ast.specs.declared.names.What.TheVariants as what
 use Rattle.os_code.specs.declared.instr.Instr.TheVariants.{Push, Return, End}
 use Rattle.os_code.specs.declared.parts.Parts.{Parts}
 use Rattle.os_code.specs.declared.site.Site.{Site}
-use Rattle.os_code.specs.declared.unit.Unit.{Unit as CodeUnit}
+use Rattle.os_code.specs.declared.unit.CodeUnit.{CodeUnit}
 use Rattle.os_code.specs.Parts.{unit_at, site_at}
 use Rattle.lowering_relation.specs.Expressions.{Stands}
 use Rattle.lowering_relation.specs.Statements.{Body, HasStmt, HasStmts}

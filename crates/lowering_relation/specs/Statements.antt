@@ -12,7 +12,7 @@ use Rattle.lowering_relation.specs.Changes.{HasChange}
 use Rattle.lowering_relation.specs.Declarators.{HasDeclarators, HasStart}
 use Rattle.lowering_relation.specs.Expressions.{Stands, HasExpr, HasCondition}
 use Rattle.lowering_relation.specs.Names.{first_of}
-use Rattle.lowering_relation.specs.Tasks.{TaskTree, number_of, HasStream, HasItems}
+use Rattle.lowering_relation.specs.Tasks.{TaskTree, task_index, HasStream, HasItems}
 
 -- What a body stands in.
 pub record Body : Type 0 where
@@ -41,7 +41,7 @@ HasRound code tells part None again from to = Ends code (part again) again from 
 HasRound code tells part (Some c) again from to =
     (step end : ℕ) × part step step from step × HasChange code tells c step end × Stands code (Jump again ∷ []) end to
 
--- A loop begins with its unit. It goes on at `next` where its condition is 0.
+-- A loop begins with its turn. It goes on at `next` where its condition is 0.
 abbrev pub HasLoop : Parts → (ℕ → Resolved) → Option tree.ExprTree → (part : (continued next from to : ℕ) → Type 0) → Option tree.ChangeTree
     → (next from to : ℕ) → Type 0
 HasLoop code tells test part step next from to =
@@ -68,7 +68,7 @@ abbrev mutual
   HasStmt code b (tree.Continue m) broke continued next from to = Stands code (Jump continued ∷ []) from to
   HasStmt code b (tree.Return m e) broke continued next from to = (end : ℕ) × HasExpr code b.tells e from end × Stands code (b.leaves ∷ []) end to
   HasStmt code b (tree.Task m cs a) broke continued next from to =
-      (number end : ℕ) × (number_of b.tasks m ≡ Some number) × HasItems code b.tells (parts cs) from end
+      (number end : ℕ) × (task_index b.tasks m ≡ Some number) × HasItems code b.tells (parts cs) from end
       × Stands code (Spawn number ∷ []) end to × (next ≡ to)
   HasStmt code b (tree.Tick m t arrow e) broke continued next from to =
       (mid end : ℕ) × HasStream code b.tells t from mid × HasExpr code b.tells e mid end

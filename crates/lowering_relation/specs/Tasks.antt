@@ -37,15 +37,15 @@ abbrev mutual
   all_tasks_of tree.no_stmts = []
   all_tasks_of (tree.stmt a rest) = tasks_of a ++ all_tasks_of rest
 
--- those of `main`
+-- the tasks of `main`
 abbrev pub program_tasks : List tree.ItemTree → List TaskTree
 program_tasks [] = []
 program_tasks (tree.Constant c ∷ is) = program_tasks is
 program_tasks (tree.Function f ∷ is) = if f.name.id == main_id then all_tasks_of f.body else program_tasks is
 
 -- the number of the task with this PragmaStart
-abbrev pub number_of : List TaskTree → Mark → Option ℕ
-number_of tasks m = position (λ (t : TaskTree). t.mark.place == m.place) tasks
+abbrev pub task_index : List TaskTree → Mark → Option ℕ
+task_index tasks m = position (λ (t : TaskTree). t.mark.place == m.place) tasks
 
 -- The stream of an item or a tick: its index, counted from the first number. That of a single stream is 0.
 abbrev pub HasStream : Parts → (ℕ → Resolved) → tree.TargetTree → (from to : ℕ) → Type 0
@@ -76,7 +76,7 @@ HasItems code tells (Private n ∷ ps) from to = HasItems code tells ps from to
 HasItems code tells (Item d i ∷ ps) from to =
     (mid end : ℕ) × HasStream code tells i.stream from mid × HasJoin code tells d i.window mid end × HasItems code tells ps end to
 
--- the items of a task's site
+-- whether an item of this direction writes
 abbrev pub is_write : Direction → Bool
 is_write direction.Reads = false
 is_write direction.Writes = true
@@ -96,6 +96,7 @@ site_item tells d i = record {
   window = window_of tells i.window;
 }
 
+-- the items of a task's site
 abbrev pub site_items : (ℕ → Resolved) → List ClausePart → List SiteItem
 site_items tells [] = []
 site_items tells (Private n ∷ ps) = site_items tells ps

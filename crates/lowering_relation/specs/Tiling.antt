@@ -1,9 +1,10 @@
 -- How the units of a code lie.
 use Rattle.std.specs.Prelude.{◌≡◌, ℕ, ◌+◌, ◌^◌, ◌<◌, ◌≤◌, List, [], ◌∷◌, length, sum_by, Some}
+use Rattle.os_ast.specs.Limits.{slots_limit}
 use Rattle.os_ast.specs.Trees.{ProgramTree}
 use Rattle.os_code.specs.declared.parts.Parts.{Parts}
 use Rattle.os_code.specs.declared.site.Site.{Site}
-use Rattle.os_code.specs.declared.unit.Unit.{Unit as CodeUnit}
+use Rattle.os_code.specs.declared.unit.CodeUnit.{CodeUnit}
 use Rattle.os_code.specs.Parts.{site_at}
 use Rattle.lowering_relation.specs.Tasks.{program_tasks}
 use Rattle.window_check_laws.specs.Globals.{count_functions}
@@ -20,4 +21,4 @@ pub record IsTiled (code : Parts) (program : ProgramTree) : Type 0 where
   pub task_units : (number : ℕ) (site : Site) → site_at code number ≡ Some site → site.unit ≡ count_functions program + number
   -- there is room
   pub short : length code.instrs < 2 ^ 32
-  pub slots_small : sum_by (λ (unit : CodeUnit). unit.slots) code.units ≤ 2097152
+  pub slots_small : sum_by (λ (unit : CodeUnit). unit.slots) code.units ≤ slots_limit

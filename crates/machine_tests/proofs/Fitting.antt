@@ -9,10 +9,10 @@ use Rattle.os_code.specs.declared.instr.Instr.{Instr}
 use Rattle.os_code.specs.declared.parts.Parts.{Parts}
 use Rattle.os_code.specs.declared.site.Site.{Site}
 use Rattle.os_code.specs.declared.site.SiteItem.{SiteItem}
-use Rattle.os_code.specs.declared.unit.Unit.{Unit as CodeUnit}
+use Rattle.os_code.specs.declared.unit.CodeUnit.{CodeUnit}
 use Rattle.os_code.specs.Parts.{site_at}
 use Rattle.os_code.specs.Tasks.{ClaimFits, Fits}
-use Rattle.machine_tests.specs.Written.{written, same_bool, single_fits, claim_fits, claims_fit, is_run}
+use Rattle.machine_tests.specs.Written.{written_code, same_bool, single_fits, claim_fits, claims_fit, is_run}
 
 -- what holds of each element holds of one
 pub of_each : {A : Type 0} (test : A → Bool) (xs : List A) (k : ℕ) (d : A) → k < length xs → list_all test xs ≡ true → test (get_or xs k d) ≡ true
@@ -53,7 +53,7 @@ fits-items (item ∷ items) (claim ∷ claims) e =
     (fits-item item claim parts.0, fits-items items claims parts.1)
 
 pub fits-written : (instrs : List Instr) (units : List CodeUnit) (task : ℕ) (captured : List ℕ) (items : List SiteItem) (values : List ℤ) (claims : List Claim) (inputs outputs : ℕ)
-    → is_run captured items values claims inputs outputs ≡ true → (code : Parts) → code ≡ written instrs units task captured items
+    → is_run captured items values claims inputs outputs ≡ true → (code : Parts) → code ≡ written_code instrs units task captured items
     → (activation : Activation) → activation.site ≡ 0 → activation.captured ≡ values → activation.claims ≡ claims → Fits code activation
 fits-written instrs units task captured items values claims inputs outputs e code is activation site held with =
     let a = and_parts _ _ e in
@@ -71,9 +71,9 @@ fits-written instrs units task captured items values claims inputs outputs e cod
           (subst (λ (cs : List Claim). AllZip (ClaimFits 3) items cs) (sym with) (fits-items items claims d.1));
     })
   where
-    the-one : (one : Site) → site_at (written instrs units task captured items) activation.site ≡ Some one → record { unit = task; line = 90; captured = captured; items = items } ≡ one
+    the-one : (one : Site) → site_at (written_code instrs units task captured items) activation.site ≡ Some one → record { unit = task; line = 90; captured = captured; items = items } ≡ one
     the-one one found =
-        let here : Some (record { unit = task; line = 90; captured = captured; items = items }) ≡ Some one = ap (λ (n : ℕ). site_at (written instrs units task captured items) n) (sym site) ∙ found in
+        let here : Some (record { unit = task; line = 90; captured = captured; items = items }) ≡ Some one = ap (λ (n : ℕ). site_at (written_code instrs units task captured items) n) (sym site) ∙ found in
         cc
 
 -- the one site

@@ -7,13 +7,13 @@ use Rattle.flow_core_laws.specs.declared.claim.Claim.{Claim}
 use Rattle.os_code.specs.declared.instr.Instr.{Instr}
 use Rattle.os_code.specs.declared.instr.Instr.TheVariants.{Push, Copy, Load, Store, Binary, Return, End}
 use Rattle.os_code.specs.declared.site.SiteItem.{SiteItem}
-use Rattle.os_code.specs.declared.unit.Unit.{Unit as CodeUnit}
+use Rattle.os_code.specs.declared.unit.CodeUnit.{CodeUnit}
 use Rattle.os_code.specs.declared.parts.Parts.{Parts}
 use Rattle.os_code.specs.Parts.{made_of}
 
 -- a code with one site, at line 90, and three streams
-abbrev pub written : List Instr → List CodeUnit → (task : ℕ) → (captured : List ℕ) → List SiteItem → Parts
-written instrs units task captured items =
+abbrev pub written_code : List Instr → List CodeUnit → (task : ℕ) → (captured : List ℕ) → List SiteItem → Parts
+written_code instrs units task captured items =
     made_of instrs units (record { unit = task; line = 90; captured = captured; items = items } ∷ []) (length units - 1) 3
 
 -- a body, behind which stand the function that it calls and a `main` that ends at once
@@ -33,7 +33,7 @@ three_items =
     ∷ record { write = true; stream = 1; window = None } ∷ []
 
 abbrev pub alone : List Instr → Parts
-alone body = written (body ++ behind) (units_around (length body)) 1 (0 ∷ 1 ∷ []) three_items
+alone body = written_code (body ++ behind) (units_around (length body)) 1 (0 ∷ 1 ∷ []) three_items
 
 abbrev pub same_bool : Bool → Bool → Bool
 same_bool true b = b

@@ -4,7 +4,7 @@ use crate::main_runs::run_written;
 use crate::written::code_of;
 use control_run::run_control;
 use flow_core_laws::{Claim, Control, ControlEnd};
-use os_code::{Binary, Code, Instr, SiteItem, Unit};
+use os_code::{Binary, Code, CodeUnit, Instr, SiteItem};
 use os_io::Memory;
 use std::alloc::Global;
 use std::test::Fail;
@@ -64,13 +64,13 @@ fn spawning(alloc: Global, window: i32, operands: [i32; 4]) -> Result<Control, M
             Instr::End,
         ],
         &[
-            Unit {
+            CodeUnit {
                 start: 0,
                 args: 2,
                 slots: 2,
                 stack: 0,
             },
-            Unit {
+            CodeUnit {
                 start: 1,
                 args: 1,
                 slots: 3,
@@ -126,13 +126,13 @@ fn ticking(alloc: Global, stream: i32, amount: i32, budget: u32) -> Result<Contr
             Instr::End,
         ],
         &[
-            Unit {
+            CodeUnit {
                 start: 0,
                 args: 0,
                 slots: 0,
                 stack: 0,
             },
-            Unit {
+            CodeUnit {
                 start: 1,
                 args: 1,
                 slots: 1,
@@ -157,7 +157,7 @@ fn ticking(alloc: Global, stream: i32, amount: i32, budget: u32) -> Result<Contr
     )
 }
 
-/// A loop that creates so many activations: each reads one position of the input with its number and `more` as burst,
+/// A loop that creates `times` activations: each reads one position of the input with its number and `more` as burst,
 /// and writes a window.
 pub(crate) fn loop_code(alloc: Global, times: i32, window: i32, more: i32) -> Result<Code, Memory> {
     code_of(
@@ -195,13 +195,13 @@ pub(crate) fn loop_code(alloc: Global, times: i32, window: i32, more: i32) -> Re
             Instr::End,
         ],
         &[
-            Unit {
+            CodeUnit {
                 start: 0,
                 args: 0,
                 slots: 0,
                 stack: 0,
             },
-            Unit {
+            CodeUnit {
                 start: 1,
                 args: 1,
                 slots: 3,

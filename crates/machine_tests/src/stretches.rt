@@ -16,7 +16,7 @@ use std::test::Fail;
 type Case = (i32, i32, i32, u32, usize, ControlEnd, u64, u64);
 
 // Two steps come before the loop. A round takes a turn, 12 steps with the `Spawn`, and 5 behind it; the last test takes 5 and
-// the end one. A `Turn` without a unit and a `Spawn` that ends the run are steps too.
+// the end one. A `Turn` that finds no turn left and a `Spawn` that ends the run are steps too.
 const CASES: [Case; 8] = [
     (0, 1, 0, 100, 0, ControlEnd::Done, 8, 1),
     (6, 1, 0, 100, 6, ControlEnd::Done, 110, 7),
@@ -49,7 +49,7 @@ const CASES: [Case; 8] = [
 
 const STRETCHES: [u32; 4] = [1, 2, 3, 4096];
 
-/// What a run gives by stretches of at most so many activations, once it has told its end, and how many steps and turns it took.
+/// What a run gives by stretches of at most `at_most` activations, once it has told its end, and how many steps and turns it took.
 fn in_stretches(
     alloc: Global,
     code: &Code,

@@ -3,11 +3,11 @@
 ghost use Rattle.std.specs.Prelude.{◌≡◌, ◌≤◌, length, true, IfOk};
 ghost use Rattle.flow_core_laws.specs.Limits.{budget_limit};
 ghost use Rattle.os_code.specs.Checking.{is_valid};
-ghost use Rattle.machine_tests.specs.Written.{is_run, written};
+ghost use Rattle.machine_tests.specs.Written.{is_run, written_code};
 
 use crate::written::{code_of, list_of};
 use flow_core_laws::{Activation, Claim, TaskEnd};
-use os_code::{Instr, SiteItem, Unit};
+use os_code::{CodeUnit, Instr, SiteItem};
 use os_io::Memory;
 use std::alloc::Global;
 use task_vm::{Scratch, run_task};
@@ -37,7 +37,7 @@ fn activation_of(alloc: Global, values: &[i32], claims: &[Claim]) -> Result<Acti
 pub(crate) fn run_twice(
     alloc: Global,
     instrs: &[Instr],
-    units: &[Unit],
+    units: &[CodeUnit],
     task: u32,
     captured: &[u32],
     items: &[SiteItem],
@@ -49,7 +49,7 @@ pub(crate) fn run_twice(
 ) -> Result<(Ran, Ran), Memory>
     requires some { 1 ≤ length units.now }
     requires few { length units.now ≤ 1000 }
-    requires valid { is_valid (written instrs.now units.now task captured.now items.now) ≡ true }
+    requires valid { is_valid (written_code instrs.now units.now task captured.now items.now) ≡ true }
     requires first { is_run captured.now items.now first.0.now claims.now (length inputs.now) (length outputs.old) ≡ true }
     requires second { is_run captured.now items.now second.0.now claims.now (length inputs.now) (length outputs.old) ≡ true }
     requires budget { first.1 ≤ budget_limit }

@@ -15,14 +15,14 @@ use alone::run_alone;
 use drawn::DRAWN;
 use flow_core_laws::{BUDGET_LIMIT, Claim, TaskEnd};
 use forms::{FORMS, FORMS_OF_WINDOWS_AND_OPERATORS};
-use os_code::{Binary, Instr, SiteItem, Unary, Unit};
+use os_code::{Binary, CodeUnit, Instr, SiteItem, Unary};
 use os_io::Memory;
 use std::alloc::Global;
 use std::process::Abort;
 use std::test::Fail;
 use table::{CASES, Case, Run, SET};
 
-/// The run of a task that is done, after so many steps, and that took no turn.
+/// The run of a task that is done, after `steps` steps, and that took no turn.
 fn done(steps: u64) -> Ran {
     Ran {
         end: TaskEnd::Done,
@@ -47,7 +47,7 @@ fn over(steps: u64) -> Ran {
     }
 }
 
-/// A run that took so many turns.
+/// A run that took `turns` turns.
 fn taking(turns: u64, ran: Ran) -> Ran {
     Ran { turns, ..ran }
 }
@@ -145,31 +145,31 @@ fn deep(
         Instr::End,
     ];
     let units = [
-        Unit {
+        CodeUnit {
             start: 0,
             args: 1,
             slots: 1,
             stack: 2,
         },
-        Unit {
+        CodeUnit {
             start: 4,
             args: 1,
             slots: 1,
             stack: 1,
         },
-        Unit {
+        CodeUnit {
             start: 8,
             args: 1,
             slots: 1,
             stack: 1,
         },
-        Unit {
+        CodeUnit {
             start: 12,
             args: 1,
             slots: 1,
             stack: 2,
         },
-        Unit {
+        CodeUnit {
             start: 18,
             args: 1,
             slots: 9,
@@ -220,13 +220,13 @@ fn eight(alloc: Global, first: i32, second: i32) -> Result<(Ran, Ran, [i32; 36])
         Instr::End,
     ];
     let units = [
-        Unit {
+        CodeUnit {
             start: 0,
             args: 1,
             slots: 1,
             stack: 2,
         },
-        Unit {
+        CodeUnit {
             start: 9,
             args: 1,
             slots: 9,

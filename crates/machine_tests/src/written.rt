@@ -4,9 +4,9 @@
 ghost use Rattle.std.specs.Prelude.{◌≡◌, ◌≤◌, length, true, IfOk};
 ghost use Rattle.os_code.specs.Checking.{is_valid};
 ghost use Rattle.os_code.specs.Codes.{parts_of};
-ghost use Rattle.machine_tests.specs.Written.{written};
+ghost use Rattle.machine_tests.specs.Written.{written_code};
 
-use os_code::{Code, Instr, Parts, Site, SiteItem, Unit};
+use os_code::{Code, CodeUnit, Instr, Parts, Site, SiteItem};
 use os_io::{List, Memory};
 use std::alloc::Global;
 
@@ -25,15 +25,15 @@ pub(crate) fn list_of<T: Copy>(alloc: Global, items: &[T]) -> Result<List<T>, Me
 pub(crate) fn code_of(
     alloc: Global,
     instrs: &[Instr],
-    units: &[Unit],
+    units: &[CodeUnit],
     task: u32,
     captured: &[u32],
     items: &[SiteItem],
 ) -> Result<Code, Memory>
     requires some { 1 ≤ length units.now }
     requires few { length units.now ≤ 1000 }
-    requires valid { is_valid (written instrs.now units.now task captured.now items.now) ≡ true }
-    ensures { IfOk result (λ code. parts_of code ≡ written instrs.now units.now task captured.now items.now) }
+    requires valid { is_valid (written_code instrs.now units.now task captured.now items.now) ≡ true }
+    ensures { IfOk result (λ code. parts_of code ≡ written_code instrs.now units.now task captured.now items.now) }
 {
     let mut sites = List::new(alloc);
     sites.push(Site {

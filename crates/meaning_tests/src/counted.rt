@@ -60,7 +60,7 @@ pub static COUNTED: [Counted; 9] = [
         65_536,
         ControlEnd::Trapped { code: 7, line: 4 },
     ),
-    // without and with enough units
+    // without and with enough turns
     (
         "int main(void) {\nint i, y;\nfor (i = 0; i < 70000; i++) {\n#pragma omp task output(osout << y)\ny = i & 255;\n}\n}\n",
         0,

@@ -1,6 +1,6 @@
 //! What `decode` answers, over objects that are written out as numbers.
 
-use os_io::Memory;
+use os_io::{Memory, READ_LIMIT};
 use os_object::{ObjectError, decode, encode};
 use std::alloc::Global;
 
@@ -18,7 +18,7 @@ pub(crate) enum Answer {
 
 /// What bytes are read as.
 pub(crate) fn answer_of(alloc: Global, bytes: &[u8]) -> Answer {
-    if bytes.len() > 67108864 {
+    if bytes.len() > READ_LIMIT as usize {
         return Answer::Memory;
     }
     match decode(alloc, bytes) {

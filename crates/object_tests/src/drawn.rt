@@ -58,7 +58,7 @@ struct Body {
 }
 
 impl Body {
-    /// Adds so many instructions, which take and leave so many operands together.
+    /// Adds `count` instructions, which together take `taken` operands and leave `left`.
     fn add(&mut self, numbers: &[u32], count: u32, taken: u32, left: u32) -> Result<(), Memory> {
         self.numbers.extend_from_slice(numbers)?;
         self.place = self.place.wrapping_add(count);

@@ -29,7 +29,7 @@ abbrev pub scalars : List Entry → List Scalar
 scalars [] = []
 scalars (e ∷ es) = others e.id (scalars es) ++ scalar_of e.id e.entity
 
--- those whose name is among some
+-- the scalars whose name is among `ids`
 abbrev pub among : List ℕ → List Scalar → List Scalar
 among ids cs = filter (λ (c : Scalar). is_in c.id ids) cs
 
@@ -39,6 +39,6 @@ among ids cs = filter (λ (c : Scalar). is_in c.id ids) cs
 abbrev pub captured : List Entry → List ClausePart → tree.StmtTree → List Scalar
 captured es ps body = among (task_names ps body) (scalars es)
 
--- their slots in the control program
+-- the slots of scalars in the control program
 abbrev pub slots_of : List Scalar → List ℕ
 slots_of cs = map (λ c. c.slot) cs

@@ -12,13 +12,13 @@ pub data ClausePart : Type 0 where
   Item : Direction → tree.ClauseItemTree → ClausePart
   Private : Name → ClausePart
 
-abbrev pub parts_of : tree.ClauseKindTree → List ClausePart
-parts_of (tree.Input items) = map (Item direction.Reads) items
-parts_of (tree.Output items) = map (Item direction.Writes) items
-parts_of (tree.Firstprivate ns) = map Private ns
+abbrev pub clause_parts : tree.ClauseKindTree → List ClausePart
+clause_parts (tree.Input items) = map (Item direction.Reads) items
+clause_parts (tree.Output items) = map (Item direction.Writes) items
+clause_parts (tree.Firstprivate ns) = map Private ns
 
 abbrev pub parts : List tree.ClauseTree → List ClausePart
-parts cs = flat_map (λ (c : tree.ClauseTree). parts_of c.kind) cs
+parts cs = flat_map (λ (c : tree.ClauseTree). clause_parts c.kind) cs
 
 abbrev pub target_name : tree.TargetTree → Name
 target_name (tree.Variable n) = n

@@ -1,11 +1,11 @@
 -- How deep a program may be, and how much it may declare.
 use Rattle.std.specs.Prelude.{ℕ, ◌&&◌, Bool, false, leb, Option, Some, ℤ, pos}
 
--- At most so many constructs stand in one another.
+-- At most `depth_limit` constructs stand in one another.
 abbrev pub depth_limit : ℕ
 depth_limit = 200
 
--- At most so many elements has a local array, and so many streams a stream array.
+-- A local array has at most `size_limit` elements, and a stream array at most as many streams.
 abbrev pub size_limit : ℕ
 size_limit = 65536
 
@@ -25,6 +25,14 @@ arrays_limit = 1048576
 -- the streams that a program declares
 abbrev pub streams_limit : ℕ
 streams_limit = 65536
+
+-- all streams of a program: those that it declares, its input and its output
+abbrev pub all_streams_limit : ℕ
+all_streams_limit = 65538
+
+-- the slots of all functions and tasks of a program together
+abbrev pub slots_limit : ℕ
+slots_limit = 2097152
 
 -- the items of a task
 abbrev pub items_limit : ℕ

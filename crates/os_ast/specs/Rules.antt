@@ -7,7 +7,7 @@ use Rattle.os_ast.specs.Limits.{is_size, elements_limit, arrays_limit, streams_l
 pub use Rattle.os_ast.specs.Names.{is_main_body}
 use Rattle.os_ast.specs.Names.{Scope, lookup, entity_of, is_declared, main_id}
 use Rattle.os_ast.specs.Notes.Declarators.{form, size_told, after_declarator}
-use Rattle.os_ast.specs.Notes.Kinds.{Note, Used, Declared, Given, Global, Left, Returned, Pragma, Task, Listed}
+use Rattle.os_ast.specs.Notes.Kinds.{Note, Used, Declared, Parameter, Global, Left, Returned, Pragma, Task, Listed}
 use Rattle.os_ast.specs.ClauseParts.{is_in}
 use Rattle.os_ast.specs.declared.names.Direction.TheVariants as direction
 use Rattle.os_ast.specs.declared.names.Entity.{Entity}
@@ -161,7 +161,7 @@ is_violated_by rule.Unknown (Used s n u) = is_none (entity_of (lookup s.entries 
 is_violated_by rule.WrongKind note = violates is_wrong_kind note
 -- 12: a name is declared a second time in one scope
 is_violated_by rule.DeclaredTwice (Declared s d) = is_declared s d.name.id
-is_violated_by rule.DeclaredTwice (Given s p) = is_declared s p.name.id
+is_violated_by rule.DeclaredTwice (Parameter s p) = is_declared s p.name.id
 is_violated_by rule.DeclaredTwice (Global s n) = is_declared s n.id
 -- 13: a call has another number of arguments; 14: a change of what may not be changed
 is_violated_by rule.ArgumentCount note = violates has_other_count note

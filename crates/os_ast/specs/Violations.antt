@@ -4,10 +4,10 @@ use Rattle.std.specs.Prelude.{◌∷◌, ◌++◌, length, map, All, Contains, i
 use Rattle.std.specs.List.{flat_map, list_any}
 use Rattle.os_ast.specs.Captured.{slots_of}
 use Rattle.os_ast.specs.Codes.{code}
-use Rattle.os_ast.specs.Meanings.{meaning, meaning_in, resolved}
+use Rattle.os_ast.specs.Meanings.{what_declared, meaning_in, resolved}
 use Rattle.os_ast.specs.Names.{lookup, entity_of, flag_of, main_id}
 use Rattle.os_ast.specs.Notes.Declarators.{constant_of, declared_entity, scalar_entity}
-use Rattle.os_ast.specs.Notes.Kinds.{Note, Used, Sized, Declared, Given, Task, mark_of}
+use Rattle.os_ast.specs.Notes.Kinds.{Note, Used, Sized, Declared, Parameter, Task, mark_of}
 use Rattle.os_ast.specs.Notes.Programs.{program_notes, after_items, file, param_list}
 use Rattle.os_ast.specs.Rules.{broken}
 use Rattle.os_ast.specs.Spelling.{spell}
@@ -48,8 +48,8 @@ constant_meaning m unsigned (Some v) = resolved m.place (what.Constant v) unsign
 abbrev pub resolutions_of : Note → List Resolved
 resolutions_of (Used s n u) = declared_meaning n.mark (flag_of (lookup s.entries n.id)) s.owner s.captured (entity_of (lookup s.entries n.id))
 resolutions_of (Sized s n) = constant_meaning n.mark (flag_of (lookup s.entries n.id)) (constant_of (entity_of (lookup s.entries n.id)))
-resolutions_of (Declared s d) = resolved d.name.mark.place (meaning (declared_entity s d)) s.unsigned ∷ []
-resolutions_of (Given s p) = resolved p.name.mark.place (meaning (scalar_entity s.owner s.slots)) (is_unsigned p.ty) ∷ []
+resolutions_of (Declared s d) = resolved d.name.mark.place (what_declared (declared_entity s d)) s.unsigned ∷ []
+resolutions_of (Parameter s p) = resolved p.name.mark.place (what_declared (scalar_entity s.owner s.slots)) (is_unsigned p.ty) ∷ []
 resolutions_of _ = []
 
 abbrev pub resolutions : List Note → List Resolved
@@ -93,15 +93,15 @@ no_main p = if has_main p then [] else violated (length (spell p)) rule.NoMain 1
 abbrev pub violations : tree.ProgramTree → List Violation
 violations p = violations_of (program_notes p) ++ no_main p
 
--- by place, and then by code
-pub data IsBefore (v w : Violation) : Type 0 where
-  earlier : v.place < w.place → IsBefore v w
-  same_place : v.place ≡ w.place → code v.rule ≤ code w.rule → IsBefore v w
+-- v stands before w, or at the same place with a code that is no greater
+pub data IsNotAbove (v w : Violation) : Type 0 where
+  earlier : v.place < w.place → IsNotAbove v w
+  same_place : v.place ≡ w.place → code v.rule ≤ code w.rule → IsNotAbove v w
 
 -- the refusal is the least violation
 pub record IsRefusal (p : tree.ProgramTree) (v : Violation) : Type 0 where
   pub among : Contains (violations p) v
-  pub least : All (IsBefore v) (violations p)
+  pub least : All (IsNotAbove v) (violations p)
 
 -- What the names of a program without violations mean, in the order of places: each name that is used, or that
 -- declares a parameter, or is a declarator's name.

@@ -27,14 +27,14 @@ mod violation;
 
 pub use expr::{Binary, Call, Expr, Index, Level, Link, Mark, Name, Target, Unary};
 pub use limits::{
-    ARRAYS_LIMIT, CAPTURED_LIMIT, DEPTH_LIMIT, ELEMENTS_LIMIT, ITEMS_LIMIT, SIZE_LIMIT,
-    STREAMS_LIMIT,
+    ALL_STREAMS_LIMIT, ARRAYS_LIMIT, CAPTURED_LIMIT, DEPTH_LIMIT, ELEMENTS_LIMIT, ITEMS_LIMIT,
+    SIZE_LIMIT, SLOTS_LIMIT, STREAMS_LIMIT,
 };
 pub use names::{Direction, Entity, Entry, Form, Owner, Resolved, Role, Shape, Use, What};
 pub use nesting::depth;
 pub use pragma::{Clause, ClauseItem, ClauseKind, Join, TaskSite, TickSite};
 pub use program::{Constant, Function, Item, Param, Params, Program};
-pub use rule::{NO_PROGRAM, Rule};
+pub use rule::Rule;
 pub use stmt::{Assign, Change, Declarator, Head, Start, Step, Stmt};
 pub use ty::Ty;
 pub use violation::Violation;

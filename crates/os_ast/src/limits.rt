@@ -10,6 +10,10 @@ pub const ELEMENTS_LIMIT: u32 = 65_536;
 pub const ARRAYS_LIMIT: u32 = 1_048_576;
 /// The most streams that a program declares.
 pub const STREAMS_LIMIT: u32 = 65_536;
+/// The most streams of a program with its input and its output.
+pub const ALL_STREAMS_LIMIT: u32 = 65_538;
+/// The most slots of all functions and tasks of a program together.
+pub const SLOTS_LIMIT: u32 = 2_097_152;
 /// The most items of a task.
 pub const ITEMS_LIMIT: usize = 8;
 /// The most scalars that a task captures.

@@ -112,7 +112,7 @@ pub enum Role {
 #[derive(Clone, Copy, Debug, PartialEq, Eq)]
 pub enum Use {
     Place(Role, Shape),
-    /// As a function, with so many arguments.
+    /// As a function, with this many arguments.
     Called(usize),
     /// Behind the `>>` or `<<` of an item, with a burst or without.
     Joined(Shape),

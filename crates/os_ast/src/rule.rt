@@ -1,8 +1,6 @@
-ghost use Rattle.std.specs.Prelude.{◌≡◌};
-ghost use Rattle.os_ast.specs.Codes.{code};
-
-/// The code of a text whose tokens mean no program.
-pub const NO_PROGRAM: u8 = 4;
+ghost use Rattle.std.specs.Prelude.{◌≡◌, ◌≢◌, IfNone, IfSome};
+ghost use Rattle.os_ast.specs.Codes.{code as rule_code};
+ghost use Rattle.os_ast.specs.declared.rule.Rule.{Rule as AnyRule};
 
 /// The rules for names and declarations, in the order of their codes.
 #[derive(Clone, Copy, Debug, PartialEq, Eq, PartialOrd, Ord)]
@@ -42,7 +40,7 @@ pub enum Rule {
 impl Rule {
     /// The code that a refusal shows: 10 to 24.
     pub fn code(self) -> u8
-        ensures { result ≡ code self }
+        ensures { result ≡ rule_code self }
     {
         match self {
             Rule::Unknown => 10,
@@ -60,6 +58,31 @@ impl Rule {
             Rule::TaskLimit => 22,
             Rule::NoMain => 23,
             Rule::MisplacedWindow => 24,
+        }
+    }
+
+    /// The rule of a code; none where no rule has it.
+    pub fn of_code(code: u8) -> Option<Rule>
+        ensures some { IfSome result (λ rule. rule_code rule ≡ code) }
+        ensures none { IfNone result ((rule : AnyRule) → rule_code rule ≢ code) }
+    {
+        match code {
+            10 => Some(Rule::Unknown),
+            11 => Some(Rule::WrongKind),
+            12 => Some(Rule::DeclaredTwice),
+            13 => Some(Rule::ArgumentCount),
+            14 => Some(Rule::FixedChanged),
+            15 => Some(Rule::WrongSize),
+            16 => Some(Rule::OutsideLoop),
+            17 => Some(Rule::Misplaced),
+            18 => Some(Rule::ReturnInTask),
+            19 => Some(Rule::MisplacedStream),
+            20 => Some(Rule::WrongEnd),
+            21 => Some(Rule::ListedTwice),
+            22 => Some(Rule::TaskLimit),
+            23 => Some(Rule::NoMain),
+            24 => Some(Rule::MisplacedWindow),
+            _ => None,
         }
     }
 }

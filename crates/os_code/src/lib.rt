@@ -29,4 +29,4 @@ pub use instr::Instr;
 pub use parts::Parts;
 pub use region::end_of_region;
 pub use site::{Site, SiteItem};
-pub use unit::Unit;
+pub use unit::CodeUnit;

@@ -1,7 +1,7 @@
 //! What the chains of calls of a code need.
 
 ghost use Rattle.std.specs.Prelude.{◌≡◌, ℕ, ◌+◌, ◌<◌, length, slice_get, IfOk};
-ghost use Rattle.os_code.specs.declared.unit.Unit.{Unit as CodeUnit};
+ghost use Rattle.os_code.specs.declared.unit.CodeUnit.{CodeUnit};
 ghost use Rattle.os_code.specs.Chains.{IsLargest};
 ghost use Rattle.os_code.specs.IsValid.{HasRegions, IsValid};
 ghost use Rattle.os_code.specs.Needs.{most_called};

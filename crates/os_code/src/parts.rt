@@ -1,6 +1,6 @@
 use crate::instr::Instr;
 use crate::site::Site;
-use crate::unit::Unit;
+use crate::unit::CodeUnit;
 use os_io::List;
 
 /// What a code is made of, valid or not.
@@ -8,7 +8,7 @@ use os_io::List;
 pub struct Parts {
     /// The instructions of all units; a place is an index into them.
     pub instrs: List<Instr>,
-    pub units: List<Unit>,
+    pub units: List<CodeUnit>,
     pub sites: List<Site>,
     /// The number of the unit of `main`.
     pub main: u32,

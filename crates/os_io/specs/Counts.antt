@@ -5,7 +5,7 @@ use Rattle.std.specs.Prelude.{ℕ, ◌+◌, ◌-◌, ◌^◌, ◌≤◌, min}
 abbrev pub last_count : ℕ
 last_count = 2 ^ 64 - 1
 
--- the count after so many more events
+-- the count after `by` more events
 abbrev pub raised : ℕ → ℕ → ℕ
 raised count by = min (count + by) last_count
 

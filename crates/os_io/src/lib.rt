@@ -12,7 +12,8 @@
 //!
 //! A `List` is a vector that contracts see as the list of its items, and a `Room` one that took its memory before,
 //! so that adding to it can't be refused. `Memory` is want of memory,
-//! the one answer that no clause ties to a cause.
+//! the one answer that no clause ties to a cause. `parse_decimal` reads a number that stands in decimals.
+//! `arguments` has the words of the call, and `stand_in` takes the place of a standard stream that the caller closed.
 #![tactic(auto)]
 
 mod calls;
@@ -20,9 +21,12 @@ mod errors;
 mod files;
 mod host_files;
 mod host_sink;
+mod limits;
 mod list;
 mod mem_files;
 mod mem_sink;
+mod numbers;
+mod process;
 mod reading;
 mod room;
 mod sink;
@@ -32,9 +36,12 @@ pub use errors::{Failed, Memory};
 pub use files::Files;
 pub use host_files::HostFiles;
 pub use host_sink::HostSink;
+pub use limits::READ_LIMIT;
 pub use list::List;
 pub use mem_files::MemFiles;
 pub use mem_sink::MemSink;
+pub use numbers::parse_decimal;
+pub use process::{arguments, stand_in};
 pub use reading::{Loaded, ReadError, read_whole};
 pub use room::Room;
 pub use sink::Sink;

@@ -35,7 +35,7 @@ impl<T> List<T> {
         }
     }
 
-    /// An empty list with memory for exactly so many items.
+    /// An empty list with memory for exactly `capacity` items.
     pub fn with_capacity(alloc: Global, capacity: usize) -> Result<List<T>, Memory>
         ensures { IfOk result (λ list. list ≡ []) }
     {
@@ -86,7 +86,7 @@ impl<T: Copy> List<T> {
 }
 
 impl<T: Drop> List<T> {
-    /// Takes memory for so many more items, so that adding them takes none. `Memory` leaves the list
+    /// Takes memory for `more` more items, so that adding them takes none. `Memory` leaves the list
     /// as it was.
     pub fn reserve(&mut self, more: usize) -> Result<(), Memory>
         ensures { self.new ≡ self.old }

@@ -92,7 +92,7 @@ impl MemFiles {
         self.calls.fail_at(call)
     }
 
-    /// Lets each `read` give at most so many bytes, as a pipe or a terminal does. It takes no memory.
+    /// Lets each `read` give at most `most` bytes, as a pipe or a terminal does. It takes no memory.
     pub fn most(&mut self, most: u32)
         requires { 1 ≤ most }
         ensures { self.new ≡ record self.old { most = most } }
@@ -204,7 +204,7 @@ fn place_after(entries: &[Entry], place: Option<Place>, count: usize) -> Option<
     Some(Place { entry, position })
 }
 
-/// Copies as many bytes as there are and as fit, but at most so many, and says how many.
+/// Copies as many bytes as there are and as fit, but at most `most`, and says how many.
 fn copy_front(from: &[u8], to: &mut [u8], most: u32) -> usize
     ensures count { result ≡ min (min (length to.old) (length from.now)) most }
     ensures bytes { to.new ≡ take result from.now ++ drop result to.old }

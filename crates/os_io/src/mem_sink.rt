@@ -8,7 +8,7 @@ use crate::sink::Sink;
 use std::alloc::Global;
 use std::marker::Model;
 
-/// A sink in memory, for tests, with room for so many bytes, of which one call takes so many at
+/// A sink in memory, for tests, with room for `room` bytes, of which one call takes `most` at
 /// most. The calls of `write` are counted from 0, and those whose number was named fail.
 #[derive(Debug, Drop)]
 pub struct MemSink {

@@ -1,6 +1,7 @@
-ghost use Rattle.std.specs.Prelude.{◌≡◌, ◌+◌, ◌^◌, ◌<◌, ◌≤◌, ◌↔◌, ◌≢◌, ◌⊎◌, length, take, vec_len, IsTrue, IfSome, IfOk, IsErrOf, OnOk, OnErr, MatchResult};
+ghost use Rattle.std.specs.Prelude.{◌≡◌, ◌+◌, ◌<◌, ◌≤◌, ◌↔◌, ◌≢◌, ◌⊎◌, length, take, vec_len, IsTrue, IfSome, IfOk, IsErrOf, OnOk, OnErr, MatchResult};
 ghost use Rattle.std.specs.Io.KnownBytes.{prepend_known, IsAtEnd};
 ghost use Rattle.os_io.specs.Counts.{HasRisen, raised};
+ghost use Rattle.os_io.specs.Limits.{read_limit};
 ghost use Rattle.os_io.specs.Reading.{IfWhole, IsReadUpTo};
 
 use crate::errors::{Failed, Memory};
@@ -72,7 +73,7 @@ pub fn read_whole<F: Files>(
     name: &str,
     limit: u64,
 ) -> Result<Loaded, ReadError>
-    requires limit { limit ≤ 2 ^ 26 }
+    requires limit { limit ≤ read_limit }
     requires may { IsTrue (F.may files.old (F.opens files.old) name.now) }
 
     // A whole file: its bytes, where they are told, and how many were given.
@@ -111,7 +112,7 @@ pub fn read_whole<F: Files>(
 
 /// Reads what is left of a file that was just opened.
 fn read_rest<F: Files>(alloc: Global, files: &mut F, limit: usize) -> Result<Loaded, ReadError>
-    requires limit { limit ≤ 2 ^ 26 }
+    requires limit { limit ≤ read_limit }
     requires fresh { F.given files.old ≡ 0 }
     ensures whole { IfWhole result (λ bytes. IfSome (F.rest files.old) (λ rest. bytes ≡ rest)) }
     ensures whole_given { IfWhole result (λ bytes. F.given files.new ≡ length bytes) }
@@ -150,7 +151,7 @@ fn read_rest<F: Files>(alloc: Global, files: &mut F, limit: usize) -> Result<Loa
 fn make_room(buffer: &mut Vec<u8>, filled: usize, most: usize) -> Result<(), AllocError>
     requires filled { filled ≤ vec_len buffer.old }
     requires room { filled < most }
-    requires most { most ≤ 2 ^ 26 + 1 }
+    requires most { most ≤ read_limit + 1 }
     requires within { vec_len buffer.old ≤ most }
     ensures room { OnOk result (filled < vec_len buffer.new) }
     ensures within { vec_len buffer.new ≤ most }

@@ -27,7 +27,7 @@ impl<T> Room<T> {
     ghost use Rattle.std.specs.Borrow.{sem};
     ghost use Rattle.os_io.specs.Rooms.{LendsRoom};
 
-    /// An empty one with memory for so many items.
+    /// An empty one with memory for `room` items.
     pub fn new(alloc: Global, room: u32) -> Result<Room<T>, Memory>
         ensures items { IfOk result (λ r. r.items ≡ []) }
         ensures spare { IfOk result (λ r. room ≤ r.spare) }

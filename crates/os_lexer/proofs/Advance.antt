@@ -12,7 +12,7 @@ use Rattle.os_lexer.specs.Forms.{IsLexeme}
 use Rattle.os_lexer.specs.Lines.{line_of}
 use Rattle.os_lexer.specs.Names.{spelling}
 use Rattle.os_lexer.specs.Spellings.{first_of}
-use Rattle.os_lexer.specs.States.{point_of, is_name, is_named, KnowsSpellings, IsNameWhereSpelledSo, IsState, number_in, IsFaultHere}
+use Rattle.os_lexer.specs.States.{point_of, is_name, is_named, KnowsSpellings, IsNameWhereSpelledSo, IsState, number_by_map, IsFaultHere}
 use Rattle.os_lexer.specs.Answer.{error_of}
 use Rattle.os_lexer.proofs.Cuts.{IsLexeme-some}
 use Rattle.os_lexer.proofs.NamedTokens.{effect_by_name, named_by_form}
@@ -56,9 +56,9 @@ module _ (text : List ℕ) (old : Lexer) (f : Form) (n : ℕ) (state : IsState t
   pub slice_length : length (slice_range text old.at (old.at + n)) ≡ n
   slice_length = ap length slice_is ∙ length-take-le n (drop old.at text) is_lexeme.within
 
-  pub effect_is : effect old.mode (number_in old.spellings (length old.tokens.items) (slice_range text old.at (old.at + n))) f (slice_range text old.at (old.at + n)) ≡ effect_at text (point_of old) f n
+  pub effect_is : effect old.mode (number_by_map old.spellings (length old.tokens.items) (slice_range text old.at (old.at + n))) f (slice_range text old.at (old.at + n)) ≡ effect_at text (point_of old) f n
   effect_is =
-      ap (λ s. effect old.mode (number_in old.spellings (length old.tokens.items) s) f s) slice_is
+      ap (λ s. effect old.mode (number_by_map old.spellings (length old.tokens.items) s) f s) slice_is
       ∙ effect_by_name text old.tokens.items old.spellings state.known state.named old.mode f (take n (drop old.at text)) is_lexeme.of_form
 
   line_is : (line : ℕ) → line ≡ old.line + count_by is_line_feed (slice_range text old.at (old.at + n)) → line ≡ line_of text (old.at + n)
@@ -66,7 +66,7 @@ module _ (text : List ℕ) (old : Lexer) (f : Form) (n : ℕ) (state : IsState t
       e ∙ ap₂ (λ a s. a + count_by is_line_feed s) state.lined slice_is ∙ sym (line_of-later text old.at n fits)
 
   -- the lexeme is skipped
-  module _ (new : Lexer) (mode : Mode) (does : effect old.mode (number_in old.spellings (length old.tokens.items) (slice_range text old.at (old.at + n))) f (slice_range text old.at (old.at + n)) ≡ Skip mode) (at_is : new.at ≡ old.at + length (slice_range text old.at (old.at + n))) (tokens_are : new.tokens.items ≡ old.tokens.items) where
+  module _ (new : Lexer) (mode : Mode) (does : effect old.mode (number_by_map old.spellings (length old.tokens.items) (slice_range text old.at (old.at + n))) f (slice_range text old.at (old.at + n)) ≡ Skip mode) (at_is : new.at ≡ old.at + length (slice_range text old.at (old.at + n))) (tokens_are : new.tokens.items ≡ old.tokens.items) where
     pub step_skip : new.mode ≡ mode → LexemeStep text (point_of old) (point_of new)
     step_skip mode_is =
         let at_end : new.at ≡ old.at + n = at_is ∙ ap (λ k. old.at + k) slice_length in
@@ -87,7 +87,7 @@ module _ (text : List ℕ) (old : Lexer) (f : Form) (n : ℕ) (state : IsState t
         }
 
   -- the lexeme is a token
-  module _ (new : Lexer) (kind : Kind) (mode : Mode) (does : effect old.mode (number_in old.spellings (length old.tokens.items) (slice_range text old.at (old.at + n))) f (slice_range text old.at (old.at + n)) ≡ Give kind mode) (at_is : new.at ≡ old.at + length (slice_range text old.at (old.at + n))) (tokens_are : new.tokens.items ≡ old.tokens.items ++ record { kind = kind; start = old.at; end = old.at + length (slice_range text old.at (old.at + n)); line = old.line } ∷ []) where
+  module _ (new : Lexer) (kind : Kind) (mode : Mode) (does : effect old.mode (number_by_map old.spellings (length old.tokens.items) (slice_range text old.at (old.at + n))) f (slice_range text old.at (old.at + n)) ≡ Give kind mode) (at_is : new.at ≡ old.at + length (slice_range text old.at (old.at + n))) (tokens_are : new.tokens.items ≡ old.tokens.items ++ record { kind = kind; start = old.at; end = old.at + length (slice_range text old.at (old.at + n)); line = old.line } ∷ []) where
     given_tokens : new.tokens.items ≡ old.tokens.items ++ token_of text kind old.at (old.at + n) ∷ []
     given_tokens = tokens_are ∙ ap₂ (λ k line. old.tokens.items ++ record { kind = kind; start = old.at; end = old.at + k; line = line } ∷ []) slice_length state.lined
 
@@ -109,12 +109,12 @@ module _ (text : List ℕ) (old : Lexer) (f : Form) (n : ℕ) (state : IsState t
           few = omega (arith, state.few, at_end, some, ap length given_tokens, length-append old.tokens.items (token_of text kind old.at (old.at + n) ∷ []));
           named = subst (All (IsNameWhereSpelledSo text)) (sym given_tokens)
               (All-push (IsNameWhereSpelledSo text) old.tokens.items (token_of text kind old.at (old.at + n)) state.named
-              (named_by_form text old.at n f old.mode mode kind (number_in old.spellings (length old.tokens.items) (slice_range text old.at (old.at + n))) slice_is is_lexeme.of_form does));
+              (named_by_form text old.at n f old.mode mode kind (number_by_map old.spellings (length old.tokens.items) (slice_range text old.at (old.at + n))) slice_is is_lexeme.of_form does));
           known = λ name. known_push text old.tokens.items old.spellings new.spellings (token_of text kind old.at (old.at + n)) (slice_range text old.at (old.at + n)) state.known refl noted name ∙ ap (position (is_named text name)) (sym given_tokens);
         }
 
   -- the lexeme is a fault
-  pub fault_take : (wrong : Fault) → effect old.mode (number_in old.spellings (length old.tokens.items) (slice_range text old.at (old.at + n))) f (slice_range text old.at (old.at + n)) ≡ Fail wrong → IsFaultAt text (point_of old) wrong
+  pub fault_take : (wrong : Fault) → effect old.mode (number_by_map old.spellings (length old.tokens.items) (slice_range text old.at (old.at + n))) f (slice_range text old.at (old.at + n)) ≡ Fail wrong → IsFaultAt text (point_of old) wrong
   fault_take wrong does = faulty is_lexeme (sym effect_is ∙ does)
 
 -- the error for a fault that stands at the point

@@ -2,7 +2,7 @@
 use Rattle.std.proofs.Common.{◌≡◌, ℕ, zero, suc, ◌+◌, ◌≤◌, ◌⊎◌, List, ◌++◌, length, Result, Ok, Err, refl, sym, ap, ◌∙◌, inl, inr, ⊎_elim, arith}
 use Rattle.std.proofs.lemmas.Bool.{cases_lt}
 use Rattle.os_lexer.specs.Cover.{Point, text_start, Leads, here, tokens_at_end, IsTokenCover, IsFaultAt, IsFirstFault}
-use Rattle.os_lexer.specs.Effects.{code_of}
+use Rattle.os_lexer.specs.Effects.{fault_code}
 use Rattle.os_lexer.specs.Laws.{OneCover, OneFault, CoverOrFault, NeverBoth}
 use Rattle.os_lexer.specs.Lines.{line_of}
 use Rattle.os_lexer.specs.declared.fault.Fault.{Fault}
@@ -20,7 +20,7 @@ one_fault text code line code' line' p q =
     let fails : move text p.point ≡ Err p.wrong = move-fault text p.stands in
     let fails' : move text q.point ≡ Err q.wrong = move-fault text q.stands in
     let wrong_is : p.wrong ≡ q.wrong = cc (sym fails ∙ ap (move text) same ∙ fails') in
-    (p.coded ∙ ap code_of wrong_is ∙ sym q.coded, p.lined ∙ ap (λ x. line_of text x.at) same ∙ sym q.lined)
+    (p.coded ∙ ap fault_code wrong_is ∙ sym q.coded, p.lined ∙ ap (λ x. line_of text x.at) same ∙ sym q.lined)
 
 pub never_both : NeverBoth
 never_both text tokens code line p q =
@@ -37,7 +37,7 @@ module _ (text : List ℕ) where
 
   fault_at : (p : Point) (wrong : Fault) → Leads text text_start p → IsFaultAt text p wrong → Ends text
   fault_at p wrong reached stands =
-      inr (code_of wrong, line_of text p.at, record { point = p; wrong = wrong; reached = reached; stands = stands; coded = refl; lined = refl })
+      inr (fault_code wrong, line_of text p.at, record { point = p; wrong = wrong; reached = reached; stands = stands; coded = refl; lined = refl })
 
   -- where a step leads to an end, or a fault stands
   ends_by : (n : ℕ) (p : Point) (found : Result Point Fault) → ((q : Point) → Leads text text_start q → q.at ≤ length text → length text ≤ q.at + n → Ends text) → Leads text text_start p → length text ≤ p.at + suc n → Goes text p found → Ends text
@@ -45,7 +45,7 @@ module _ (text : List ℕ) where
       let w = step_within text step in later q (leads_on text reached step) w.1 (omega (arith, w))
   ends_by n p (Err wrong) later reached near stands = fault_at p wrong reached stands
 
-  -- so many steps lead to the end or to a fault
+  -- `n` steps at most lead to the end or to a fault
   ends_from : (n : ℕ) (p : Point) → Leads text text_start p → p.at ≤ length text → length text ≤ p.at + n → Ends text
   ends_from zero p reached within near = cover_at p reached (omega arith)
   ends_from (suc n) p reached within near =

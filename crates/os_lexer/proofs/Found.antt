@@ -8,7 +8,7 @@ use Rattle.std.proofs.lemmas.Slice.Eq.{bytes_eq-Decides}
 use Rattle.std.specs.Prelude.{slice_index, slice_range, nat_lt, ◌==◌}
 use Rattle.os_lexer.specs.Bytes.{is_white, is_blank, is_letter, is_digit, is_word_byte, IsPairAt}
 use Rattle.os_lexer.specs.Lines.{EndsJoinedLine}
-use Rattle.os_lexer.specs.Forms.{IsRun, IsWord, IsHashTo, IsForm}
+use Rattle.os_lexer.specs.Forms.{IsWordBytes, IsWord, IsHashTo, IsForm}
 use Rattle.os_lexer.specs.Marks.{mark_spelling}
 use Rattle.os_lexer.specs.Reading.{class_of, ends_run, ends_blanks, ends_line, is_joined, closes, run_end, blanks_end, line_end, comment_end, lexeme, joined_line_at, mark_at, comment_at, slash_at, named_directive, directive_at, lexeme_of, lexeme_at}
 use Rattle.os_lexer.specs.declared.bytes.Class.{Class}
@@ -81,7 +81,7 @@ module _ (bytes : List ℕ) (nonempty : 0 < length bytes) where
   }
 
   -- the bytes to the end of a run from its second byte on
-  run_to : is_word_byte (slice_index bytes 0) ≡ true → IsRun (take (run_end bytes 1) bytes)
+  run_to : is_word_byte (slice_index bytes 0) ≡ true → IsWordBytes (take (run_end bytes 1) bytes)
   run_to begins =
       let first = run_end-first bytes 1 (omega arith) in
       let n = run_end bytes 1 in

@@ -9,7 +9,7 @@ use Rattle.std.proofs.lemmas.Slice.{between_is}
 use Rattle.std.specs.Prelude.{slice_index, slice_range, nat_lt, ◌==◌}
 use Rattle.os_lexer.specs.Bytes.{is_white, is_blank, is_letter, is_digit, is_word_byte, IsPairAt}
 use Rattle.os_lexer.specs.Lines.{EndsJoinedLine, StaysOnLine}
-use Rattle.os_lexer.specs.Forms.{IsRun, IsWord, IsHashTo, IsForm}
+use Rattle.os_lexer.specs.Forms.{IsWordBytes, IsWord, IsHashTo, IsForm}
 use Rattle.os_lexer.specs.Marks.{mark_spelling}
 use Rattle.os_lexer.specs.Reading.{class_of, ends_run, ends_blanks, ends_line, is_joined, closes, run_end, blanks_end, line_end, comment_end, lexeme, joined_line_at, mark_at, comment_at, slash_at, named_directive, directive_at, lexeme_of, lexeme_at}
 use Rattle.os_lexer.specs.declared.bytes.Class.{Class}
@@ -145,7 +145,7 @@ module _ (bytes : List ℕ) (m : ℕ) (within : m ≤ length bytes) where
       let white : is_white (slice_index bytes 0) ≡ true = ap is_white (sym (front_at 0 (omega arith))) ∙ s.1 in
       found_longer _ form.Space m 1 (lexeme_at-of_class bytes White (class_of-white (slice_index bytes 0) white)) (omega arith)
 
-  longest-run : (form : Form) → IsRun (take m bytes) → lexeme_at bytes ≡ Some (lexeme form (run_end bytes 1)) → FindsAtLeast (lexeme_at bytes) m (lexeme form m)
+  longest-run : (form : Form) → IsWordBytes (take m bytes) → lexeme_at bytes ≡ Some (lexeme form (run_end bytes 1)) → FindsAtLeast (lexeme_at bytes) m (lexeme form m)
   longest-run form run is_found =
       let some : 1 ≤ m = omega (arith, run.0, front_length) in
       let passes : m ≤ run_end bytes 1 = IsFirst-passes (run_end-first bytes 1 (omega arith)) m within

@@ -135,7 +135,7 @@ pub mark_front-is : (bytes : List ℕ) (n : ℕ) (m : Punct) → mark_front byte
 unfolding mark_front
 mark_front-is bytes n m e = front_cases bytes n m (nat_lt (length bytes) n) refl e
 
--- where there are so many bytes
+-- where there are `n` bytes, and where there are fewer
 pub mark_front-long : (bytes : List ℕ) (n : ℕ) → n ≤ length bytes → mark_front bytes n ≡ mark_of (take n bytes)
 unfolding mark_front
 mark_front-long bytes n within = cond-false (nat_lt (length bytes) n) _ _ (le-ltb (length bytes) n within)
@@ -254,7 +254,7 @@ no_zeros : mark_of (0 ∷ 0 ∷ []) ≡ None
 unfolding mark_of
 no_zeros = refl
 
--- the first bytes of a slice, as far as there are so many
+-- the first three bytes of a slice, the first two and the first one, where it has as many
 front_three : (bytes : List ℕ) → 3 ≤ length bytes → take 3 bytes ≡ slice_index bytes 0 ∷ slice_index bytes 1 ∷ slice_index bytes 2 ∷ []
 front_three [] long = absurd (omega arith)
 front_three (x ∷ []) long = absurd (omega arith)

@@ -9,7 +9,7 @@ use Rattle.os_lexer.specs.Forms.{IsWord, IsForm}
 use Rattle.os_lexer.specs.Keywords.{key_of}
 use Rattle.os_lexer.specs.Names.{fixed_names, spelling, first_index, name_number}
 use Rattle.os_lexer.specs.Reading.{lexeme, lexeme_at}
-use Rattle.os_lexer.specs.States.{is_name, is_named, KnowsSpellings, IsNameWhereSpelledSo, number_in}
+use Rattle.os_lexer.specs.States.{is_name, is_named, KnowsSpellings, IsNameWhereSpelledSo, number_by_map}
 use Rattle.os_lexer.specs.declared.effect.Effect.TheVariants.{Give}
 use Rattle.os_lexer.specs.declared.form.Form.{Form}
 use Rattle.os_lexer.specs.declared.form.Form.TheVariants as form
@@ -71,19 +71,19 @@ module _ (text name : List ℕ) (word : IsWord name) (none : key_of name ≡ Non
 -- the number of a name, by the map
 module _ (text : List ℕ) (tokens : List Token) (spellings : Spellings) (known : KnowsSpellings text tokens spellings) (named : All
     (IsNameWhereSpelledSo text) tokens) where
-  number_in-is : (name : List ℕ) → IsWord name → key_of name ≡ None → number_in spellings (length tokens) name ≡ name_number text tokens name
-  number_in-is name word none =
+  number_by_map-is : (name : List ℕ) → IsWord name → key_of name ≡ None → number_by_map spellings (length tokens) name ≡ name_number text tokens name
+  number_by_map-is name word none =
       ap (λ i. unwrap_or (position (bytes_eq name) fixed_names) (12 + i))
       (ap (λ o. unwrap_or o (length tokens)) (known name) ∙ unwrap_or-position (is_named text name) tokens ∙ first_name text name word none tokens named)
 
   word_alike : (key : Option Key) (name : List ℕ) → key_of name ≡ key → IsWord name →
-      word_kind key (number_in spellings (length tokens) name) ≡ word_kind key (name_number text tokens name)
-  word_alike None name e word = ap kind.Name (number_in-is name word e)
+      word_kind key (number_by_map spellings (length tokens) name) ≡ word_kind key (name_number text tokens name)
+  word_alike None name e word = ap kind.Name (number_by_map-is name word e)
   word_alike (Some key) name e word = refl
 
   -- what a lexeme does, by the map
   pub effect_by_name : (mode : Mode) (f : Form) (s : List ℕ) → IsForm f s →
-      effect mode (number_in spellings (length tokens) s) f s ≡ effect mode (name_number text tokens s) f s
+      effect mode (number_by_map spellings (length tokens) s) f s ≡ effect mode (name_number text tokens s) f s
   effect_by_name mode form.Space s is_form = refl
   effect_by_name mode form.JoinedLine s is_form = refl
   effect_by_name mode form.LineComment s is_form = refl

@@ -12,7 +12,7 @@ use Rattle.os_lexer.specs.Cover.{Point, text_start, token_of, effect_at, LexemeS
 use Rattle.os_lexer.specs.Cover as walk
 use Rattle.os_lexer.specs.Cut.{opens_pragma, is_in_pragma, is_first_on_line, mode_at, does, IsSkip, IsGive, IsFail, IsCutTo, start, gap, token, pragma_end, IsCut, StandsAt, formless, faulty, IsFaultPoint}
 use Rattle.os_lexer.specs.Effects.{effect, directive_effect, space_effect, number_effect, word_kind, mode_after_token, mode_after_gap}
-use Rattle.os_lexer.specs.Forms.{IsRun, IsForm, IsLexeme}
+use Rattle.os_lexer.specs.Forms.{IsWordBytes, IsForm, IsLexeme}
 use Rattle.os_lexer.specs.Keywords.{key_of}
 use Rattle.os_lexer.specs.Laws.{CoverCuts, FaultPoints}
 use Rattle.os_lexer.specs.Lines.{line_of}
@@ -70,7 +70,7 @@ any_head (x ∷ xs) some e = ap (λ b. (b == 10) || list_any is_line_feed xs) e
 word_unfeed : (b : ℕ) → is_word_byte b ≡ true → is_line_feed b ≡ false
 word_unfeed b e = grind (arith, nat_tests)
 
-run_unfeed : (s : List ℕ) → IsRun s → list_any is_line_feed s ≡ false
+run_unfeed : (s : List ℕ) → IsWordBytes s → list_any is_line_feed s ≡ false
 run_unfeed s run =
     list_any_none is_line_feed s (All-from_get_or (λ b. is_line_feed b ≡ false) s 0 (λ i below. word_unfeed (slice_index s i) (run.1 i below)))
 

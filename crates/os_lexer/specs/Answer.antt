@@ -2,7 +2,7 @@
 use Rattle.std.specs.Prelude.{◌≡◌, ℕ, List, Result, Ok, Err, Vec}
 use Rattle.std.specs.declared.alloc.Global.{Global}
 use Rattle.os_lexer.specs.Cover.{IsFirstFault}
-use Rattle.os_lexer.specs.Effects.{code_of}
+use Rattle.os_lexer.specs.Effects.{fault_code}
 use Rattle.os_lexer.specs.declared.fault.Fault.{Fault}
 use Rattle.os_lexer.specs.declared.fault.Fault.TheVariants as fault
 use Rattle.os_lexer.specs.declared.fault.LexError.{LexError}
@@ -11,16 +11,16 @@ use Rattle.os_lexer.specs.declared.token.Token.{Token}
 
 -- the error is the first fault of the text; want of memory says nothing
 abbrev pub IsFaultOf : List ℕ → LexError → Type 0
-IsFaultOf text (BadByte line) = IsFirstFault text (code_of fault.BadByte) line
-IsFaultOf text (OpenComment line) = IsFirstFault text (code_of fault.OpenComment) line
-IsFaultOf text (BigNumber line) = IsFirstFault text (code_of fault.BigNumber) line
+IsFaultOf text (BadByte line) = IsFirstFault text (fault_code fault.BadByte) line
+IsFaultOf text (OpenComment line) = IsFirstFault text (fault_code fault.OpenComment) line
+IsFaultOf text (BigNumber line) = IsFirstFault text (fault_code fault.BigNumber) line
 IsFaultOf text Memory = Unit {0}
 
 -- the error has this code and line, unless memory ran out
 abbrev pub HasCodeUnlessMemory : ℕ → ℕ → LexError → Type 0
-HasCodeUnlessMemory code line (BadByte l) = (code ≡ code_of fault.BadByte) × (line ≡ l)
-HasCodeUnlessMemory code line (OpenComment l) = (code ≡ code_of fault.OpenComment) × (line ≡ l)
-HasCodeUnlessMemory code line (BigNumber l) = (code ≡ code_of fault.BigNumber) × (line ≡ l)
+HasCodeUnlessMemory code line (BadByte l) = (code ≡ fault_code fault.BadByte) × (line ≡ l)
+HasCodeUnlessMemory code line (OpenComment l) = (code ≡ fault_code fault.OpenComment) × (line ≡ l)
+HasCodeUnlessMemory code line (BigNumber l) = (code ≡ fault_code fault.BigNumber) × (line ≡ l)
 HasCodeUnlessMemory code line Memory = Unit {0}
 
 -- the error is want of memory

@@ -5,7 +5,7 @@
 -- and that is the first fault.
 use Rattle.std.specs.Prelude.{◌≡◌, ℕ, ◌+◌, ◌<◌, ◌≤◌, List, [], ◌∷◌, ◌++◌, length, take, drop}
 use Rattle.os_lexer.specs.Forms.{IsForm, IsLexeme}
-use Rattle.os_lexer.specs.Effects.{code_of, effect}
+use Rattle.os_lexer.specs.Effects.{fault_code, effect}
 use Rattle.os_lexer.specs.Lines.{line_of}
 use Rattle.os_lexer.specs.Names.{name_number}
 use Rattle.os_lexer.specs.declared.effect.Effect.{Effect}
@@ -78,5 +78,5 @@ pub record IsFirstFault (text : List ℕ) (code line : ℕ) : Type 0 where
   pub wrong : Fault
   pub reached : Leads text text_start point
   pub stands : IsFaultAt text point wrong
-  pub coded : code ≡ code_of wrong
+  pub coded : code ≡ fault_code wrong
   pub lined : line ≡ line_of text point.at

@@ -4,7 +4,7 @@
 use Rattle.std.specs.Prelude.{◌≡◌, ℕ, ◌+◌, ◌<◌, Bool, true, false, List, [], ◌∷◌, ◌++◌, length, take, drop, fold, nat_lt, if◌then◌else◌}
 use Rattle.std.specs.List.{list_all}
 use Rattle.os_lexer.specs.Cover.{token_of, IsFormless}
-use Rattle.os_lexer.specs.Effects.{code_of, effect}
+use Rattle.os_lexer.specs.Effects.{fault_code, effect}
 use Rattle.os_lexer.specs.Forms.{IsLexeme}
 use Rattle.os_lexer.specs.Lines.{line_of}
 use Rattle.os_lexer.specs.Names.{name_number}
@@ -96,4 +96,4 @@ pub record IsFaultPoint (text : List ℕ) (code point : ℕ) : Type 0 where
   pub wrong : Fault
   pub cut : IsCutTo text before point
   pub stands : StandsAt text before point wrong
-  pub coded : code ≡ code_of wrong
+  pub coded : code ≡ fault_code wrong

@@ -18,10 +18,10 @@ use Rattle.os_lexer.specs.declared.token.Kind.{Kind}
 use Rattle.os_lexer.specs.declared.token.Kind.TheVariants as kind
 
 -- the codes of the faults
-abbrev pub code_of : Fault → ℕ
-code_of fault.BadByte = 1
-code_of fault.OpenComment = 2
-code_of fault.BigNumber = 3
+abbrev pub fault_code : Fault → ℕ
+fault_code fault.BadByte = 1
+fault_code fault.OpenComment = 2
+fault_code fault.BigNumber = 3
 
 -- behind a token
 abbrev pub mode_after_token : Mode → Mode

@@ -8,12 +8,12 @@ use Rattle.os_lexer.specs.declared.form.Form.{Form}
 use Rattle.os_lexer.specs.declared.form.Form.TheVariants as form
 
 -- a run of letters, digits and `_`
-abbrev pub IsRun : List ℕ → Type 0
-IsRun s = (0 < length s) × EachIndex s (λ i. IsTrue (is_word_byte (slice_index s i)))
+abbrev pub IsWordBytes : List ℕ → Type 0
+IsWordBytes s = (0 < length s) × EachIndex s (λ i. IsTrue (is_word_byte (slice_index s i)))
 
 -- a run that begins with a letter or `_`: a keyword or a name (C11, 6.4.1 and 6.4.2)
 pub record IsWord (s : List ℕ) : Type 0 where
-  pub run : IsRun s
+  pub run : IsWordBytes s
   pub begins : IsTrue (is_letter (slice_index s 0))
 
 -- `#`, and then spaces and tabs up to point k: the start of a directive (C11, 6.10)
@@ -46,7 +46,7 @@ IsForm form.OtherDirective s =
     (name_at : ℕ) × IsHashTo s name_at × IsWord (drop name_at s) × (drop name_at s ≢ codes "pragma") × (drop name_at s ≢ codes "include")
 IsForm form.Word s = IsWord s
 -- a run that begins with a digit: a number, or none (C11, 6.4.4.1)
-IsForm form.Number s = IsRun s × IsTrue (is_digit (slice_index s 0))
+IsForm form.Number s = IsWordBytes s × IsTrue (is_digit (slice_index s 0))
 -- a mark, as it is spelled
 IsForm (form.Mark mark) s = s ≡ mark_spelling mark
 

@@ -49,6 +49,10 @@ osout_id = 10
 abbrev pub osin_len_id : ℕ
 osin_len_id = 11
 
+-- the first number of the names that are a text's own
+abbrev pub first_own_id : ℕ
+first_own_id = 12
+
 -- the slice of the text that a token is
 abbrev pub spelling : List ℕ → Token → List ℕ
 spelling text token = slice_range text token.start token.end
@@ -57,6 +61,6 @@ spelling text token = slice_range text token.start token.end
 abbrev pub first_index : List ℕ → List Token → List ℕ → ℕ
 first_index text tokens name = position_or_len (λ token. bytes_eq name (spelling text token)) tokens
 
--- every name that isn't fixed has 12 plus the index of the first token with the same spelling
+-- every name that isn't fixed has `first_own_id` plus the index of the first token with the same spelling
 abbrev pub name_number : List ℕ → List Token → List ℕ → ℕ
-name_number text tokens name = unwrap_or (position (bytes_eq name) fixed_names) (12 + first_index text tokens name)
+name_number text tokens name = unwrap_or (position (bytes_eq name) fixed_names) (first_own_id + first_index text tokens name)

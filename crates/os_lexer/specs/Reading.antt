@@ -26,12 +26,12 @@ class_of b =
     else (if b == 35 then Hash
     else Other)))))
 
--- the first point from one on at which the test holds, among so many points, or the point behind them
+-- of a number of points from `point` on, the first at which the test holds, or the point behind them
 abbrev pub first_from : (ℕ → Bool) → ℕ → ℕ → ℕ
 first_from test zero point = point
 first_from test (suc n) point = if test point then point else first_from test n (point + 1)
 
--- the same in a slice, to its end
+-- the first point of a slice from `from` on at which the test holds, or its end
 abbrev pub first_in : (List ℕ → ℕ → Bool) → List ℕ → ℕ → ℕ
 first_in test bytes from = first_from (test bytes) (length bytes - from) from
 
@@ -69,7 +69,7 @@ line_end = first_in ends_line
 unfoldable pub comment_end : List ℕ → ℕ → ℕ
 comment_end = first_in closes
 
--- a form of so many bytes
+-- a lexeme of a form, `n` bytes long
 abbrev pub lexeme : Form → ℕ → Lexeme
 lexeme form n = record { form = form; length = n }
 
@@ -102,7 +102,7 @@ mark_from (m ∷ ms) s = if bytes_eq s (mark_spelling m) then Some m else mark_f
 unfoldable pub mark_of : List ℕ → Option Punct
 mark_of s = mark_from all_marks s
 
--- the mark that is the first n bytes, if there are so many
+-- the mark that is the first n bytes, if there are n of them
 unfoldable pub mark_front : List ℕ → ℕ → Option Punct
 mark_front bytes n = if nat_lt (length bytes) n then None else mark_of (take n bytes)
 

@@ -5,7 +5,7 @@ use Rattle.os_lexer.specs.Forms.{IsWord}
 use Rattle.os_lexer.specs.Keywords.{key_of}
 use Rattle.os_lexer.specs.Limits.{text_limit}
 use Rattle.os_lexer.specs.Lines.{line_of}
-use Rattle.os_lexer.specs.Names.{fixed_names, spelling}
+use Rattle.os_lexer.specs.Names.{first_own_id, fixed_names, spelling}
 use Rattle.os_lexer.specs.Spellings.{first_of}
 use Rattle.os_lexer.specs.declared.fault.Fault.TheVariants as fault
 use Rattle.os_lexer.specs.declared.fault.LexError.{LexError}
@@ -43,7 +43,7 @@ abbrev pub KnowsSpellings : List ℕ → List Token → Spellings → Type 0
 KnowsSpellings text tokens spellings =
     (name : List ℕ) → first_of spellings name ≡ position (is_named text name) tokens
 
--- a token that is spelled as a name is one
+-- a token whose spelling is a word and no keyword is a name
 abbrev pub IsNameWhereSpelledSo : List ℕ → Token → Type 0
 IsNameWhereSpelledSo text token =
     IsWord (spelling text token) → key_of (spelling text token) ≡ None → is_name token.kind ≡ true
@@ -57,10 +57,10 @@ pub record IsState (text : List ℕ) (lexer : Lexer) : Type 0 where
   pub known : KnowsSpellings text lexer.tokens.items lexer.spellings
   pub named : All (IsNameWhereSpelledSo text) lexer.tokens.items
 
--- the number of a name, by the map, where so many tokens stand before it
-abbrev pub number_in : Spellings → ℕ → List ℕ → ℕ
-number_in spellings count name =
-    unwrap_or (position (bytes_eq name) fixed_names) (12 + unwrap_or (first_of spellings name) count)
+-- the number of a name, by the map, where `count` tokens stand before it
+abbrev pub number_by_map : Spellings → ℕ → List ℕ → ℕ
+number_by_map spellings count name =
+    unwrap_or (position (bytes_eq name) fixed_names) (first_own_id + unwrap_or (first_of spellings name) count)
 
 -- the fact, of a word
 abbrev pub IfWord : Form → Type 0 → Type 0

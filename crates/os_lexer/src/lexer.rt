@@ -8,6 +8,7 @@ use crate::fault::{Fault, LexError};
 use crate::form::{Form, Lexeme};
 use crate::lexemes::lexeme_at;
 use crate::mode::Mode;
+use crate::names::FIRST_OWN_ID;
 use crate::spellings::Spellings;
 use crate::token::{Kind, Token};
 use crate::words::fixed_number;
@@ -29,8 +30,9 @@ impl<'a> Lexer<'a> {
     ghost use Rattle.os_lexer.specs.Effects.{effect};
     ghost use Rattle.os_lexer.specs.Forms.{IsLexeme};
     ghost use Rattle.os_lexer.specs.Limits.{text_limit};
+    ghost use Rattle.os_lexer.specs.Names.{first_own_id};
     ghost use Rattle.os_lexer.specs.Spellings.{first_of};
-    ghost use Rattle.os_lexer.specs.States.{point_of, end_of, is_name, number_in, IsState, IsFaultHere, IfWord};
+    ghost use Rattle.os_lexer.specs.States.{point_of, end_of, is_name, number_by_map, IsState, IsFaultHere, IfWord};
 
     /// The start of a text.
     pub(crate) fn new(alloc: Global) -> Lexer<'a>
@@ -92,18 +94,18 @@ impl<'a> Lexer<'a> {
 
     /// What the slice of a form does at the point.
     fn effect(&self, form: Form, slice: &[u8]) -> Effect
-        requires { 12 + unwrap_or (first_of self.now.spellings slice.now) (length self.now.tokens.items) < 2 ^ 32 }
+        requires { first_own_id + unwrap_or (first_of self.now.spellings slice.now) (length self.now.tokens.items) < 2 ^ 32 }
         ensures { result ≡ effect self.now.mode
-            (number_in self.now.spellings (length self.now.tokens.items) slice.now) form slice.now }
+            (number_by_map self.now.spellings (length self.now.tokens.items) slice.now) form slice.now }
     {
         effect_of(self.mode, self.number_of(form, slice), form, slice)
     }
 
     /// The number that the slice of a form has, if it is a name.
     fn number_of(&self, form: Form, slice: &[u8]) -> u32
-        requires { 12 + unwrap_or (first_of self.now.spellings slice.now) (length self.now.tokens.items) < 2 ^ 32 }
+        requires { first_own_id + unwrap_or (first_of self.now.spellings slice.now) (length self.now.tokens.items) < 2 ^ 32 }
         ensures { IfWord form
-            (result ≡ number_in self.now.spellings (length self.now.tokens.items) slice.now) }
+            (result ≡ number_by_map self.now.spellings (length self.now.tokens.items) slice.now) }
     {
         match form {
             Form::Word => self.name_number(slice),
@@ -113,12 +115,12 @@ impl<'a> Lexer<'a> {
 
     /// The number of a name.
     fn name_number(&self, name: &[u8]) -> u32
-        requires { 12 + unwrap_or (first_of self.now.spellings name.now) (length self.now.tokens.items) < 2 ^ 32 }
-        ensures { result ≡ number_in self.now.spellings (length self.now.tokens.items) name.now }
+        requires { first_own_id + unwrap_or (first_of self.now.spellings name.now) (length self.now.tokens.items) < 2 ^ 32 }
+        ensures { result ≡ number_by_map self.now.spellings (length self.now.tokens.items) name.now }
     {
         match fixed_number(name) {
             Some(number) => number as u32,
-            None => 12 + self.first_index(name),
+            None => FIRST_OWN_ID + self.first_index(name),
         }
     }
 

@@ -24,3 +24,6 @@ pub const OSIN: u32 = 9;
 pub const OSOUT: u32 = 10;
 /// `osin_len`
 pub const OSIN_LEN: u32 = 11;
+
+/// The first number of the names that are a text's own.
+pub const FIRST_OWN_ID: u32 = 12;

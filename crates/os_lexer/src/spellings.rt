@@ -15,7 +15,7 @@ impl<'a> Spellings<'a> {
     ghost use Rattle.os_lexer.specs.Spellings.{first_of};
     ghost use Rattle.os_lexer.specs.States.{is_name};
 
-    /// No spelling.
+    /// A map without spellings.
     pub(crate) fn new(alloc: Global) -> Spellings<'a>
         ensures { (name : List ℕ) → first_of result name ≡ None }
     {

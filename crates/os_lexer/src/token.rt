@@ -11,7 +11,7 @@ pub struct Token {
 /// What a token is.
 ///
 /// The names `omp`, `task`, `tick`, `taskwait`, `input`, `output`, `firstprivate`, `stream`, `main`,
-/// `osin`, `osout` and `osin_len` have the numbers 0 to 11. Every other name has 12 plus the index of
+/// `osin`, `osout` and `osin_len` have the numbers 0 to 11. Every other name has `FIRST_OWN_ID` plus the index of
 /// the first token with the same spelling. A number has its value, at most 2,147,483,647; a wide number, whose type is
 /// `unsigned`, has one of at most 4,294,967,295.
 #[derive(Clone, Copy, Debug, PartialEq, Eq)]

@@ -4,6 +4,7 @@ ghost use Rattle.os_lexer.specs.Keywords.{key_of};
 ghost use Rattle.os_lexer.specs.Names.{fixed_names};
 ghost use Rattle.os_lexer.specs.Reading.{key_in, index_in};
 
+use crate::names::FIRST_OWN_ID;
 use crate::token::Key;
 
 /// Each keyword with its key.
@@ -56,7 +57,7 @@ static KEYWORDS: [(&[u8], Key); 45] = [
 ];
 
 /// The names that have the numbers 0 to 11.
-static FIXED_NAMES: [&[u8]; 12] = [
+static FIXED_NAMES: [&[u8]; FIRST_OWN_ID as usize] = [
     b"omp",
     b"task",
     b"tick",

@@ -13,7 +13,7 @@ use Rattle.os_code.proofs.Spans.{span, all_spans}
 use Rattle.os_code.specs.declared.parts.Parts.{Parts}
 use Rattle.os_code.specs.declared.site.Site.{Site}
 use Rattle.os_code.specs.declared.site.SiteItem.{SiteItem}
-use Rattle.os_code.specs.declared.unit.Unit.{Unit as CodeUnit}
+use Rattle.os_code.specs.declared.unit.CodeUnit.{CodeUnit}
 use Rattle.os_code.specs.IsValid.{HasRegions, IsValid}
 use Rattle.os_code.specs.Parts.{site_at}
 use Rattle.os_object.specs.Fronts.{IsSmallSite}

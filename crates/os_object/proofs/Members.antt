@@ -20,7 +20,7 @@ ends-flat member ends (x ∷ xs) (y ∷ ys) a b n e =
     let counts : length xs ≡ length ys = omega arith in
     ends-flat member ends xs ys a b counts (ends.rests x y (flat_map member xs ++ a) (flat_map member ys ++ b) apart)
 
--- so many numbers in each member make as many times the members, at least
+-- `least` numbers or more in each member are, all together, at least `least` times as many as there are members
 many : {A : Type 0} (member : A → List ℕ) (least : ℕ) → ((x : A) → least ≤ length (member x)) → (xs : List A)
     → length xs * least ≤ length (flat_map member xs)
 many member least some [] = omega arith

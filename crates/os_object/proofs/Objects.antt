@@ -3,7 +3,7 @@ use Rattle.std.proofs.Common.{◌≡◌, ℕ, List, [], ◌∷◌, ◌++◌, Err
 use Rattle.std.specs.List.{flat_map, AllByRecursion}
 use Rattle.os_code.specs.declared.parts.Parts.{Parts}
 use Rattle.os_object.specs.Answers.{IsReadAs}
-use Rattle.os_object.specs.Fronts.{IsRefused}
+use Rattle.os_object.specs.Fronts.{IsObjectRefused}
 use Rattle.os_object.specs.declared.object_error.ObjectError.{ObjectError}
 use Rattle.os_object.specs.declared.object_error.ObjectError.TheVariants.{Format, Invalid, Memory}
 use Rattle.os_object.specs.Object.{number, list_of, unit_numbers, site_numbers, instr_numbers, parts_numbers, object, IsInstr, Spells}
@@ -39,12 +39,12 @@ spells-from bytes parts numbers is are instrs = record {
 }
 
 -- what a reader refuses spells no parts
-pub refused_as : (error : ObjectError) (Nothing : Type 0) (parts : Parts) → IsRefused error Nothing → (Nothing → ⊥) → IsReadAs parts (Err error)
+pub refused_as : (error : ObjectError) (Nothing : Type 0) (parts : Parts) → IsObjectRefused error Nothing → (Nothing → ⊥) → IsReadAs parts (Err error)
 refused_as Format Nothing parts refused some = some refused
 refused_as Invalid Nothing parts refused some = absurd refused
 refused_as Memory Nothing parts refused some = tt
 
-pub never_invalid : (error : ObjectError) (Nothing Goal : Type 0) → IsRefused error Nothing → error ≡ Invalid → Goal
+pub never_invalid : (error : ObjectError) (Nothing Goal : Type 0) → IsObjectRefused error Nothing → error ≡ Invalid → Goal
 never_invalid Format Nothing Goal refused e = cc
 never_invalid Invalid Nothing Goal refused e = absurd refused
 never_invalid Memory Nothing Goal refused e = cc

@@ -5,9 +5,9 @@ use Rattle.os_code.specs.declared.instr.Instr.{Instr}
 use Rattle.os_code.specs.declared.parts.Parts.{Parts}
 use Rattle.os_code.specs.declared.site.Site.{Site}
 use Rattle.os_code.specs.declared.site.SiteItem.{SiteItem}
-use Rattle.os_code.specs.declared.unit.Unit.{Unit as CodeUnit}
+use Rattle.os_code.specs.declared.unit.CodeUnit.{CodeUnit}
 use Rattle.os_object.specs.Object.{list_of, unit_numbers, write_number, window_number, item_numbers, slot_numbers, site_numbers, instr_numbers, parts_numbers, IsInstr}
-use Rattle.os_object.specs.Fronts.{IsRefused}
+use Rattle.os_object.specs.Fronts.{IsObjectRefused}
 use Rattle.os_object.specs.declared.object_error.ObjectError.{ObjectError}
 use Rattle.os_object.specs.declared.object_error.ObjectError.TheVariants.{Format, Invalid, Memory}
 use Rattle.os_object.proofs.Members.{Ends, ends-list, same-list, Always, always}
@@ -139,7 +139,7 @@ one-parts x y fits also e =
     ∙ ap (λ (is : List Instr). parts_by y.streams y.main y.units y.sites is) instrs
 
 -- where a part isn't there, nothing is there that has it
-pub refused-map : (error : ObjectError) (P Q : Type 0) → IsRefused error P → (P → Q) → IsRefused error Q
+pub refused-map : (error : ObjectError) (P Q : Type 0) → IsObjectRefused error P → (P → Q) → IsObjectRefused error Q
 refused-map Format P Q refused on = on refused
 refused-map Invalid P Q refused on = refused
 refused-map Memory P Q refused on = refused

@@ -6,10 +6,10 @@ use Rattle.os_object.specs.declared.object_error.ObjectError.{ObjectError}
 use Rattle.os_object.specs.declared.object_error.ObjectError.TheVariants.{Format, Invalid, Memory}
 
 -- nothing that it could read stands there, or memory is wanting
-abbrev pub IsRefused : ObjectError → Type 0 → Type 0
-IsRefused Format Nothing = Nothing
-IsRefused Invalid Nothing = ⊥
-IsRefused Memory Nothing = Unit {0}
+abbrev pub IsObjectRefused : ObjectError → Type 0 → Type 0
+IsObjectRefused Format Nothing = Nothing
+IsObjectRefused Invalid Nothing = ⊥
+IsObjectRefused Memory Nothing = Unit {0}
 
 -- the numbers of an item, and those of a site, are of 32 bits
 abbrev pub IsSmallItem : SiteItem → Type 0

@@ -2,7 +2,7 @@
 
 ghost use Rattle.std.specs.Prelude.{◌≡◌, ◌++◌, ◌∷◌, [], List, ℕ, IfOk, IfErr, OnOk};
 ghost use Rattle.std.specs.List.{flat_map};
-ghost use Rattle.os_object.specs.Fronts.{IsRefused};
+ghost use Rattle.os_object.specs.Fronts.{IsObjectRefused};
 ghost use Rattle.os_object.specs.Object.{number};
 
 use crate::object_error::ObjectError;
@@ -12,7 +12,7 @@ use std::alloc::Global;
 /// The numbers behind the mark of an object.
 pub(crate) fn numbers_in(alloc: Global, bytes: &[u8]) -> Result<Vec<u32>, ObjectError>
     ensures ok { IfOk result (λ numbers. bytes.now ≡ 79 ∷ 83 ∷ 79 ∷ 49 ∷ flat_map number numbers.items) }
-    ensures err { IfErr result (λ error. IsRefused error ((numbers : List ℕ) → bytes.now ≡ 79 ∷ 83 ∷ 79 ∷ 49 ∷ flat_map number numbers → ⊥)) }
+    ensures err { IfErr result (λ error. IsObjectRefused error ((numbers : List ℕ) → bytes.now ≡ 79 ∷ 83 ∷ 79 ∷ 49 ∷ flat_map number numbers → ⊥)) }
 {
     let [0x4f, 0x53, 0x4f, 0x31, rest @ ..] = bytes else {
         return Err(ObjectError::Format);
@@ -23,7 +23,7 @@ pub(crate) fn numbers_in(alloc: Global, bytes: &[u8]) -> Result<Vec<u32>, Object
 /// The numbers that the bytes are.
 fn numbers_of(alloc: Global, bytes: &[u8]) -> Result<Vec<u32>, ObjectError>
     ensures ok { IfOk result (λ numbers. bytes.now ≡ flat_map number numbers.items) }
-    ensures err { IfErr result (λ error. IsRefused error ((numbers : List ℕ) → bytes.now ≡ flat_map number numbers → ⊥)) }
+    ensures err { IfErr result (λ error. IsObjectRefused error ((numbers : List ℕ) → bytes.now ≡ flat_map number numbers → ⊥)) }
 {
     let mut numbers = Vec::with_capacity(alloc, bytes.len() / 4)?;
     let mut rest = bytes;

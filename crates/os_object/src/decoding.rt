@@ -6,6 +6,7 @@ ghost use Rattle.os_code.specs.IsValid.{IsValid};
 ghost use Rattle.os_code.specs.declared.parts.Parts.{Parts as CodeParts};
 ghost use Rattle.os_object.specs.Answers.{IsReadAs};
 ghost use Rattle.os_object.specs.Object.{Spells};
+ghost use Rattle.os_io.specs.Limits.{read_limit};
 
 use crate::bytes::numbers_in;
 use crate::object_error::ObjectError;
@@ -16,7 +17,7 @@ use std::alloc::Global;
 
 /// The code that the bytes spell, all of them. It takes time and memory in proportion to the bytes.
 pub fn decode(alloc: Global, bytes: &[u8]) -> Result<Code, ObjectError>
-    requires { length bytes.now ≤ 67108864 }
+    requires { length bytes.now ≤ read_limit }
     // Where there is a code, the bytes are its object.
     ensures spelled { IfOk result (λ code. Spells bytes.now (parts_of code)) }
     // The code is valid.

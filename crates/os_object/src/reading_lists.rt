@@ -5,16 +5,16 @@ ghost use Rattle.std.specs.List.{flat_map, AllByRecursion};
 ghost use Rattle.os_code.specs.declared.instr.Instr.{Instr as CodeInstr};
 ghost use Rattle.os_code.specs.declared.site.Site.{Site as CodeSite};
 ghost use Rattle.os_code.specs.declared.site.SiteItem.{SiteItem as CodeItem};
-ghost use Rattle.os_code.specs.declared.unit.Unit.{Unit as CodeUnit};
+ghost use Rattle.os_code.specs.declared.unit.CodeUnit.{CodeUnit};
 ghost use Rattle.os_code.specs.declared.parts.Parts.{Parts as CodeParts};
-ghost use Rattle.os_object.specs.Fronts.{IsRefused};
+ghost use Rattle.os_object.specs.Fronts.{IsObjectRefused};
 ghost use Rattle.os_object.specs.Object.{list_of, slot_numbers, window_number, write_number, item_numbers, site_numbers, unit_numbers, instr_numbers};
 ghost use Rattle.os_object.specs.Object.{parts_numbers, IsInstr};
 
 use crate::object_error::ObjectError;
 use crate::reading_instr::read_instr;
 use crate::reading_members::{read_item, read_slot, read_unit};
-use os_code::{Instr, Site, SiteItem, Unit};
+use os_code::{CodeUnit, Instr, Site, SiteItem};
 use os_io::List;
 use std::alloc::Global;
 
@@ -47,9 +47,10 @@ fn read_length(numbers: &[u32], least: usize) -> Option<(usize, &[u32])>
 pub(crate) fn read_units(
     alloc: Global,
     numbers: &[u32],
-) -> Result<(List<Unit>, &[u32]), ObjectError>
+) -> Result<(List<CodeUnit>, &[u32]), ObjectError>
     ensures ok { IfOk result (λ read. numbers.now ≡ list_of unit_numbers read.0 ++ read.1.now) }
-    ensures err { IfErr result (λ error. IsRefused error ((units : List CodeUnit) (rest : List ℕ) → numbers.now ≡ list_of unit_numbers units ++ rest → ⊥)) }
+    ensures err { IfErr result (λ error. IsObjectRefused error
+        ((units : List CodeUnit) (rest : List ℕ) → numbers.now ≡ list_of unit_numbers units ++ rest → ⊥)) }
 {
     let Some((count, members)) = read_length(numbers, UNIT_NUMBERS) else {
         return Err(ObjectError::Format);
@@ -69,7 +70,7 @@ pub(crate) fn read_units(
 /// The slots at the front, and the numbers behind them.
 pub(crate) fn read_slots(alloc: Global, numbers: &[u32]) -> Result<(List<u32>, &[u32]), ObjectError>
     ensures ok { IfOk result (λ read. numbers.now ≡ list_of slot_numbers read.0 ++ read.1.now) }
-    ensures err { IfErr result (λ error. IsRefused error ((slots : List ℕ) (rest : List ℕ) → numbers.now ≡ list_of slot_numbers slots ++ rest → ⊥)) }
+    ensures err { IfErr result (λ error. IsObjectRefused error ((slots : List ℕ) (rest : List ℕ) → numbers.now ≡ list_of slot_numbers slots ++ rest → ⊥)) }
 {
     let Some((count, members)) = read_length(numbers, 1) else {
         return Err(ObjectError::Format);
@@ -92,7 +93,8 @@ pub(crate) fn read_items(
     numbers: &[u32],
 ) -> Result<(List<SiteItem>, &[u32]), ObjectError>
     ensures ok { IfOk result (λ read. numbers.now ≡ list_of item_numbers read.0 ++ read.1.now) }
-    ensures err { IfErr result (λ error. IsRefused error ((items : List CodeItem) (rest : List ℕ) → numbers.now ≡ list_of item_numbers items ++ rest → ⊥)) }
+    ensures err { IfErr result (λ error. IsObjectRefused error
+        ((items : List CodeItem) (rest : List ℕ) → numbers.now ≡ list_of item_numbers items ++ rest → ⊥)) }
 {
     let Some((count, members)) = read_length(numbers, ITEM_NUMBERS) else {
         return Err(ObjectError::Format);
@@ -112,7 +114,7 @@ pub(crate) fn read_items(
 /// The site at the front, and the numbers behind it.
 fn read_site(alloc: Global, numbers: &[u32]) -> Result<(Site, &[u32]), ObjectError>
     ensures ok { IfOk result (λ read. numbers.now ≡ site_numbers read.0 ++ read.1.now) }
-    ensures err { IfErr result (λ error. IsRefused error ((site : CodeSite) (rest : List ℕ) → numbers.now ≡ site_numbers site ++ rest → ⊥)) }
+    ensures err { IfErr result (λ error. IsObjectRefused error ((site : CodeSite) (rest : List ℕ) → numbers.now ≡ site_numbers site ++ rest → ⊥)) }
 {
     let [unit, line, rest @ ..] = numbers else {
         return Err(ObjectError::Format);
@@ -134,7 +136,8 @@ pub(crate) fn read_sites(
     numbers: &[u32],
 ) -> Result<(List<Site>, &[u32]), ObjectError>
     ensures ok { IfOk result (λ read. numbers.now ≡ list_of site_numbers read.0 ++ read.1.now) }
-    ensures err { IfErr result (λ error. IsRefused error ((sites : List CodeSite) (rest : List ℕ) → numbers.now ≡ list_of site_numbers sites ++ rest → ⊥)) }
+    ensures err { IfErr result (λ error. IsObjectRefused error
+        ((sites : List CodeSite) (rest : List ℕ) → numbers.now ≡ list_of site_numbers sites ++ rest → ⊥)) }
 {
     let Some((count, members)) = read_length(numbers, SITE_NUMBERS) else {
         return Err(ObjectError::Format);
@@ -155,7 +158,8 @@ pub(crate) fn read_instrs(
     numbers: &[u32],
 ) -> Result<(List<Instr>, &[u32]), ObjectError>
     ensures ok { IfOk result (λ read. AllByRecursion IsInstr read.0 × (numbers.now ≡ list_of instr_numbers read.0 ++ read.1.now)) }
-    ensures err { IfErr result (λ error. IsRefused error ((instrs : List CodeInstr) (rest : List ℕ) → numbers.now ≡ list_of instr_numbers instrs ++ rest → ⊥)) }
+    ensures err { IfErr result (λ error. IsObjectRefused error
+        ((instrs : List CodeInstr) (rest : List ℕ) → numbers.now ≡ list_of instr_numbers instrs ++ rest → ⊥)) }
 {
     let Some((count, members)) = read_length(numbers, 1) else {
         return Err(ObjectError::Format);

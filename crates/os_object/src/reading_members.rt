@@ -5,23 +5,23 @@ ghost use Rattle.std.specs.List.{flat_map, AllByRecursion};
 ghost use Rattle.os_code.specs.declared.instr.Instr.{Instr as CodeInstr};
 ghost use Rattle.os_code.specs.declared.site.Site.{Site as CodeSite};
 ghost use Rattle.os_code.specs.declared.site.SiteItem.{SiteItem as CodeItem};
-ghost use Rattle.os_code.specs.declared.unit.Unit.{Unit as CodeUnit};
+ghost use Rattle.os_code.specs.declared.unit.CodeUnit.{CodeUnit};
 ghost use Rattle.os_code.specs.declared.parts.Parts.{Parts as CodeParts};
-ghost use Rattle.os_object.specs.Fronts.{IsRefused};
+ghost use Rattle.os_object.specs.Fronts.{IsObjectRefused};
 ghost use Rattle.os_object.specs.Object.{list_of, slot_numbers, window_number, write_number, item_numbers, site_numbers, unit_numbers, instr_numbers};
 ghost use Rattle.os_object.specs.Object.{parts_numbers, IsInstr};
 
-use os_code::{SiteItem, Unit};
+use os_code::{CodeUnit, SiteItem};
 
 /// The unit at the front, and the numbers behind it.
-pub(crate) fn read_unit(numbers: &[u32]) -> Option<(Unit, &[u32])>
+pub(crate) fn read_unit(numbers: &[u32]) -> Option<(CodeUnit, &[u32])>
     ensures some { IfSome result (λ read. numbers.now ≡ unit_numbers read.0 ++ read.1.now) }
     ensures none { IfNone result ((unit : CodeUnit) (rest : List ℕ) → numbers.now ≡ unit_numbers unit ++ rest → ⊥) }
 {
     let [start, args, slots, stack, rest @ ..] = numbers else {
         return None;
     };
-    let unit = Unit {
+    let unit = CodeUnit {
         start: *start,
         args: *args,
         slots: *slots,

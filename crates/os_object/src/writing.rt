@@ -9,11 +9,11 @@ ghost use Rattle.os_object.specs.Object as written;
 
 use crate::bytes::write_numbers;
 use crate::writing_instr::write_instr;
-use os_code::{Instr, Site, SiteItem, Unit};
+use os_code::{CodeUnit, Instr, Site, SiteItem};
 use os_io::Memory;
 
 /// Adds the list of units: its length, and its members.
-pub(crate) fn write_units(object: &mut Vec<u8>, units: &[Unit]) -> Result<(), Memory>
+pub(crate) fn write_units(object: &mut Vec<u8>, units: &[CodeUnit]) -> Result<(), Memory>
     requires { length units.now < 2 ^ 32 }
     ensures { OnOk result (object.new.items ≡ object.old.items ++ flat_map written.number (written.list_of written.unit_numbers units.now)) }
 {

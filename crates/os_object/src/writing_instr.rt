@@ -3,6 +3,7 @@
 ghost use Rattle.std.specs.Prelude.{◌≡◌, ◌++◌, OnOk};
 ghost use Rattle.std.specs.Int.{w32, cast_signed};
 ghost use Rattle.std.specs.List.{flat_map};
+ghost use Rattle.c_int.specs.Unsigned.{word};
 ghost use Rattle.os_object.specs.Object as written;
 
 use crate::bytes::write_numbers;
@@ -45,8 +46,8 @@ pub(crate) fn write_instr(object: &mut Vec<u8>, instr: Instr) -> Result<(), Memo
 
 /// The 32 bits of a number.
 fn bits_of(number: i32) -> u32
-    ensures is { result ≡ written.bits number }
-    ensures back { cast_signed w32 (written.bits number) ≡ number }
+    ensures is { result ≡ word number }
+    ensures back { cast_signed w32 (word number) ≡ number }
 {
     number.cast_unsigned()
 }

@@ -6,7 +6,7 @@ use Rattle.std.proofs.lemmas.List.{get_or-set_same, get_or-set_other}
 use Rattle.std.proofs.lemmas.Option.{slice_get_within}
 use Rattle.os_code.specs.Checking.{height_in}
 use Rattle.os_code.specs.declared.parts.Parts.{Parts}
-use Rattle.os_code.specs.declared.unit.Unit.{Unit as CodeUnit}
+use Rattle.os_code.specs.declared.unit.CodeUnit.{CodeUnit}
 use Rattle.os_code.specs.IsValid.{HasRegions, Reaches, Starts}
 use Rattle.os_code.specs.Parts.{unit_at, is_within}
 use Rattle.os_code.proofs.Regions.{is_within-from, next_start-above}

@@ -5,7 +5,7 @@ use Rattle.std.specs.Option.{option_map_or}
 use Rattle.std.proofs.lemmas.List.{get_or_read}
 use Rattle.std.proofs.lemmas.Option.{slice_get-get_or, slice_get_past}
 use Rattle.os_code.specs.declared.site.Site.{Site}
-use Rattle.os_code.specs.declared.unit.Unit.{Unit as CodeUnit}
+use Rattle.os_code.specs.declared.unit.CodeUnit.{CodeUnit}
 use Rattle.os_object_validity.specs.Tables.{task_in}
 use Rattle.os_object_validity.proofs.Exploring.{none-from}
 

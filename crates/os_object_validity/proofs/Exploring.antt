@@ -9,8 +9,8 @@ use Rattle.os_code.specs.Checking.{height_in}
 use Rattle.os_code.specs.declared.instr.Instr.{Instr}
 use Rattle.os_code.specs.declared.instr.Instr.TheVariants.{Push}
 use Rattle.os_code.specs.declared.parts.Parts.{Parts}
-use Rattle.os_code.specs.declared.unit.Unit.{Unit as CodeUnit}
-use Rattle.os_code.specs.Effects.{height_after, jump_of, goes_on}
+use Rattle.os_code.specs.declared.unit.CodeUnit.{CodeUnit}
+use Rattle.os_code.specs.Effects.{height_after, jump_of, falls_through}
 use Rattle.os_code.specs.Heights.{HeightsFit}
 use Rattle.os_code.specs.IsValid.{HasInstr, HasRegions, HasTargets, HasHeights, Reaches, ReachesInstr}
 use Rattle.os_code.specs.Parts.{instr_at, unit_at, is_within}
@@ -285,7 +285,7 @@ few_units code regions =
 pub visited : (code : Parts) → HasRegions code → (before between after : List (Option ℕ)) (waiting : List Waiting) (w : Waiting) (number : ℕ) (unit : CodeUnit) (instr : Instr)
     (height : ℕ) → IsExplored code after waiting (λ place. place ≡ w.place) → HasInstr code number unit w.place instr → height_in before w.place ≡ Some w.height
     → IsKept before between → IsKept between after → FitsStack code unit w.height instr → height ≡ height_after code instr w.height
-    → (IsTrue (goes_on instr) → IsTrue (is_within code unit (w.place + 1)) × (height_in between (w.place + 1) ≡ Some height))
+    → (IsTrue (falls_through instr) → IsTrue (is_within code unit (w.place + 1)) × (height_in between (w.place + 1) ≡ Some height))
     → ((to : ℕ) → jump_of instr ≡ Some to → height_in after to ≡ Some height) → IsExplored code after waiting (λ place. ⊥)
 visited code regions before between after waiting w number unit instr height explored has told kept still fits is next target =
     explored-close code regions after waiting w number unit instr explored has (still w.place w.height (kept w.place w.height told)) (record {

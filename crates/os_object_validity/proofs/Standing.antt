@@ -9,7 +9,7 @@ use Rattle.os_code.specs.declared.instr.Instr.TheVariants.{Push, ItemStore, Call
 use Rattle.os_code.specs.declared.parts.Parts.{Parts}
 use Rattle.os_code.specs.declared.site.Site.{Site}
 use Rattle.os_code.specs.declared.site.SiteItem.{SiteItem}
-use Rattle.os_code.specs.declared.unit.Unit.{Unit as CodeUnit}
+use Rattle.os_code.specs.declared.unit.CodeUnit.{CodeUnit}
 use Rattle.os_code.specs.Checking.{is_turn, is_function, called_of, spawned_of, ticked_of, stored_of}
 use Rattle.os_code.specs.Effects.{jump_of, needs_turn, slots_named, item_of}
 use Rattle.os_code.specs.IsValid.{HasInstr, HasRegions, HasTargets, HasFrames, HasSites, HasHeights, IsValid}

@@ -5,7 +5,7 @@ use Rattle.std.proofs.lemmas.Bool.{cases_eq, cases_lt, cases_Bool, or_cases, or_
 use Rattle.std.proofs.lemmas.List.{get_or-set_same, get_or-set_other, take_all, length_push, get_or_push, get_or_append_left}
 use Rattle.std.proofs.lemmas.Option.{slice_get_within}
 use Rattle.os_code.specs.declared.parts.Parts.{Parts}
-use Rattle.os_code.specs.declared.unit.Unit.{Unit as CodeUnit}
+use Rattle.os_code.specs.declared.unit.CodeUnit.{CodeUnit}
 use Rattle.os_code.specs.IsValid.{HasRegions, IsValid}
 use Rattle.os_code.specs.NeedTables.{IsMarked}
 use Rattle.os_code.specs.Needs.{starts_at}

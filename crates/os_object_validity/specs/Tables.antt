@@ -2,10 +2,11 @@
 use Rattle.std.specs.Prelude.{◌≡◌, ℕ, ◌+◌, ◌-◌, ◌<◌, ◌≤◌, ◌⊎◌, Bool, true, false, not, ◌==◌, ◌&&◌, nat_le, nat_lt, List, [], ◌∷◌, length, find}
 use Rattle.std.specs.Prelude.{sum_by, take, Option, Some, None, slice_get, slice_index_or, IsTrue}
 use Rattle.std.specs.List.{list_all}
+use Rattle.os_ast.specs.Limits.{all_streams_limit, captured_limit, items_limit, slots_limit}
 use Rattle.os_code.specs.declared.instr.Instr.{Instr}
 use Rattle.os_code.specs.declared.site.Site.{Site}
 use Rattle.os_code.specs.declared.site.SiteItem.{SiteItem}
-use Rattle.os_code.specs.declared.unit.Unit.{Unit as CodeUnit}
+use Rattle.os_code.specs.declared.unit.CodeUnit.{CodeUnit}
 use Rattle.os_code.specs.Checking.{height_in, implies, if_there, is_turn, is_function, called_of, spawned_of, ticked_of, stored_of}
 use Rattle.os_code.specs.Effects.{operands_of, height_after, jump_of, needs_turn, slots_named, item_of, stands_in}
 use Rattle.os_code.specs.Heights.{HeightsFit}
@@ -116,7 +117,7 @@ abbrev pub site_stands : Parts → CodeUnit → Site → Bool
 site_stands code main site =
     not (site.unit == code.main) && nat_lt site.unit (length code.units)
     && args_of_are code site
-    && nat_le (length site.items) 8 && nat_le (length site.captured) 64
+    && nat_le (length site.items) items_limit && nat_le (length site.captured) captured_limit
     && list_all (λ slot. nat_lt slot main.slots) site.captured && list_all (item_stands code main) site.items
 
 abbrev pub sites_stand_by : Parts → Option CodeUnit → Bool
@@ -126,7 +127,7 @@ sites_stand_by code (Some main) = main.args == 1 && list_all (site_stands code m
 -- all that is asked of `main`, sites, streams and slots, but that no two sites have the same unit
 abbrev pub sites_stand : Parts → Bool
 sites_stand code =
-    nat_le 2 code.streams && nat_le code.streams 65538 && nat_le (sum_by (λ (unit : CodeUnit). unit.slots) code.units) 2097152
+    nat_le 2 code.streams && nat_le code.streams all_streams_limit && nat_le (sum_by (λ (unit : CodeUnit). unit.slots) code.units) slots_limit
     && sites_stand_by code (unit_at code code.main)
 
 -- no two sites have the same unit

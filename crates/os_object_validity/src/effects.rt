@@ -104,8 +104,8 @@ pub(crate) fn jump_of(instr: Instr) -> Option<u32>
 }
 
 /// Whether an instruction may go on to the next place.
-pub(crate) fn goes_on(instr: Instr) -> bool
-    ensures { result ≡ effects.goes_on instr }
+pub(crate) fn falls_through(instr: Instr) -> bool
+    ensures { result ≡ effects.falls_through instr }
 {
     !matches!(instr, Instr::Jump(_) | Instr::Return | Instr::End)
 }

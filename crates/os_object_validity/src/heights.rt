@@ -7,9 +7,9 @@ ghost use Rattle.os_code.specs.IsValid.{HasRegions, HasTargets, HasHeights, Reac
 ghost use Rattle.os_code.specs.Parts.{instr_at, unit_at, region_end, is_within};
 ghost use Rattle.os_object_validity.specs.Tables.{AreEnds, IsExplored, IsEntry, IsKept, FitsStack, unknown};
 
-use crate::effects::{goes_on, jump_of, operands_of, pushes};
+use crate::effects::{falls_through, jump_of, operands_of, pushes};
 use crate::places::Region;
-use os_code::{Instr, Parts, Unit};
+use os_code::{CodeUnit, Instr, Parts};
 use os_io::Memory;
 use std::alloc::Global;
 
@@ -103,7 +103,7 @@ fn visit(
 }
 
 /// The height behind an instruction; or none, where operands are missing or it passes the unit's stack before or after.
-fn height_after(parts: &Parts, unit: Unit, instr: Instr, height: u32) -> Option<u32>
+fn height_after(parts: &Parts, unit: CodeUnit, instr: Instr, height: u32) -> Option<u32>
     ensures some { IfSome result (λ after. FitsStack parts.now unit height instr × (after ≡ effects.height_after parts.now instr height)) }
     ensures none { IfNone result (FitsStack parts.now unit height instr → ⊥) }
 {
@@ -137,13 +137,13 @@ fn go_on(
     requires after { after ≡ effects.height_after parts.now instr at.height }
     requires explored { IsExplored parts.now heights.old waiting.old.items (λ place. place ≡ at.place) }
     ensures yes { IfOk result (λ fits. fits ≡ true → IsExplored parts.now heights.new waiting.new.items (λ place. place ≡ at.place)) }
-    ensures next { IfOk result (λ fits. fits ≡ true → IsTrue (effects.goes_on instr) →
+    ensures next { IfOk result (λ fits. fits ≡ true → IsTrue (effects.falls_through instr) →
         IsTrue (is_within parts.now region.unit (at.place + 1)) × (height_in heights.new (at.place + 1) ≡ Some after)) }
     ensures kept { IfOk result (λ fits. IsKept heights.old heights.new) }
     ensures no { IfOk result (λ fits. fits ≡ false → HasHeights parts.now → ⊥) }
     ensures fewer { IfOk result (λ fits. 2 * unknown heights.new + length waiting.new.items ≤ 2 * unknown heights.old + length waiting.old.items) }
 {
-    if !goes_on(instr) {
+    if !falls_through(instr) {
         return Ok(true);
     }
     if at.place + 1 >= region.end {
@@ -195,7 +195,7 @@ fn jump(
 /// Reaches a place with a height: it has that height, or gets it and waits, or has another one.
 fn reach(
     parts: &Parts,
-    unit: Unit,
+    unit: CodeUnit,
     to: Waiting,
     from: usize,
     heights: &mut [Option<u32>],

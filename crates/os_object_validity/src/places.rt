@@ -11,13 +11,13 @@ use crate::effects::{
     called_of, item_of, jump_of, needs_turn, slots_named, spawned_of, stored_of, ticked_of,
 };
 use crate::kinds::{UnitKind, items_of, kind_of, stands_in};
-use os_code::{Instr, Parts, SiteItem, Unit};
+use os_code::{CodeUnit, Instr, Parts, SiteItem};
 
 /// A unit, with its number and the end of its region.
 #[derive(Clone, Copy, Debug, PartialEq, Eq)]
 pub(crate) struct Region {
     pub number: usize,
-    pub unit: Unit,
+    pub unit: CodeUnit,
     pub end: usize,
 }
 
@@ -157,7 +157,7 @@ fn is_function(parts: &Parts, tasks: &[Option<usize>], number: usize) -> bool
 }
 
 /// Whether the slots, the site and the stream that an instruction names are there.
-fn names_stand(parts: &Parts, unit: Unit, instr: Instr) -> bool
+fn names_stand(parts: &Parts, unit: CodeUnit, instr: Instr) -> bool
     ensures { result ≡ tested.names_stand parts.now unit instr }
 {
     slots_named(instr) <= u64::from(unit.slots)

@@ -2,16 +2,21 @@
 
 ghost use Rattle.std.specs.Prelude.{◌≡◌, nat_lt, sum_by, nat_le};
 ghost use Rattle.std.specs.List.{list_all};
-ghost use Rattle.os_code.specs.declared.unit.Unit.{Unit as CodeUnit};
+ghost use Rattle.os_ast.specs.Limits.{slots_limit};
+ghost use Rattle.os_code.specs.declared.unit.CodeUnit.{CodeUnit};
 ghost use Rattle.os_object_validity.specs.Tables as tested;
 
-use os_code::{Parts, Site, SiteItem, Unit};
+use os_ast::{ALL_STREAMS_LIMIT, CAPTURED_LIMIT, ITEMS_LIMIT, SLOTS_LIMIT};
+use os_code::{CodeUnit, Parts, Site, SiteItem};
 
 /// Whether `main` is there and takes the input's length, streams and slots are within their limits, and each site stands.
 pub(crate) fn sites_stand(parts: &Parts) -> bool
     ensures { result ≡ tested.sites_stand parts.now }
 {
-    if parts.streams < 2 || parts.streams > 65538 || !slots_few(parts.units.as_slice()) {
+    if parts.streams < 2
+        || parts.streams > ALL_STREAMS_LIMIT
+        || !slots_few(parts.units.as_slice())
+    {
         return false;
     }
     match parts.units.as_slice().get(parts.main as usize) {
@@ -21,10 +26,10 @@ pub(crate) fn sites_stand(parts: &Parts) -> bool
 }
 
 /// Whether the slots of all units are within their limit.
-fn slots_few(units: &[Unit]) -> bool
-    ensures { result ≡ nat_le (sum_by (λ (unit : CodeUnit). unit.slots) units.now) 2097152 }
+fn slots_few(units: &[CodeUnit]) -> bool
+    ensures { result ≡ nat_le (sum_by (λ (unit : CodeUnit). unit.slots) units.now) slots_limit }
 {
-    let mut left = 2097152;
+    let mut left = SLOTS_LIMIT;
     for unit in units {
         if unit.slots > left {
             return false;
@@ -35,7 +40,7 @@ fn slots_few(units: &[Unit]) -> bool
 }
 
 /// Whether each site stands.
-fn all_stand(parts: &Parts, main: &Unit) -> bool
+fn all_stand(parts: &Parts, main: &CodeUnit) -> bool
     ensures { result ≡ list_all (tested.site_stands parts.now main.now) parts.now.sites }
 {
     for site in parts.sites.as_slice() {
@@ -47,14 +52,14 @@ fn all_stand(parts: &Parts, main: &Unit) -> bool
 }
 
 /// Whether what a site names is there.
-fn site_stands(parts: &Parts, main: &Unit, site: &Site) -> bool
+fn site_stands(parts: &Parts, main: &CodeUnit, site: &Site) -> bool
     ensures { result ≡ tested.site_stands parts.now main.now site.now }
 {
     site.unit != parts.main
         && (site.unit as usize) < parts.units.len()
         && args_are(parts, site)
-        && site.items.len() <= 8
-        && site.captured.len() <= 64
+        && site.items.len() <= ITEMS_LIMIT
+        && site.captured.len() <= CAPTURED_LIMIT
         && slots_there(main, site.captured.as_slice())
         && items_stand(parts, main, site.items.as_slice())
 }
@@ -70,21 +75,21 @@ fn args_are(parts: &Parts, site: &Site) -> bool
 }
 
 /// Whether the slots are slots of `main`.
-fn slots_there(main: &Unit, slots: &[u32]) -> bool
+fn slots_there(main: &CodeUnit, slots: &[u32]) -> bool
     ensures { result ≡ list_all (λ slot. nat_lt slot main.now.slots) slots.now }
 {
     slots.iter().all(|slot| *slot < main.slots)
 }
 
 /// Whether the windows of items are kept in slots of `main`, and their streams are there.
-fn items_stand(parts: &Parts, main: &Unit, items: &[SiteItem]) -> bool
+fn items_stand(parts: &Parts, main: &CodeUnit, items: &[SiteItem]) -> bool
     ensures { result ≡ list_all (tested.item_stands parts.now main.now) items.now }
 {
     items.iter().all(|item| item_stands(parts, main, item))
 }
 
 /// Whether the window of an item is kept in a slot of `main`, and its stream is there.
-fn item_stands(parts: &Parts, main: &Unit, item: &SiteItem) -> bool
+fn item_stands(parts: &Parts, main: &CodeUnit, item: &SiteItem) -> bool
     ensures { result ≡ tested.item_stands parts.now main.now item.now }
 {
     if item.stream >= parts.streams {

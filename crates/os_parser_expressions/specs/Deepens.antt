@@ -10,7 +10,7 @@ abbrev pub Deepens : ℕ → Result ℕ ProductionError → Type 0
 Deepens depth (Ok d) = (d + 1 ≡ depth) × (below depth ≡ Some (layer (below d)))
 Deepens depth (Err e) = (e ≡ errors.Syntax) × (below depth ≡ None)
 
--- the same for the parts of statements
+-- what is left of a depth, one deeper, for the parts of statements
 abbrev pub DeepensStmt : ℕ → Result ℕ ProductionError → Type 0
 DeepensStmt depth (Ok d) = (d + 1 ≡ depth)
     × (below depth ≡ Some (layer (below d)))

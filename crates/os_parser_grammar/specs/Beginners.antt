@@ -167,15 +167,15 @@ name_at [] = None
 name_at (placed k m ∷ ts) = name_of k
 
 -- the next token, where it is a number below 2^31, or a wide one below 2^32
-abbrev pub number_of : Kind → Option Numeral
-number_of (kind.Number n) = if nat_lt n (2 ^ 31) then Some (record { size = n; wide = false }) else None
-number_of (kind.Wide n) = if nat_lt n (2 ^ 32) then Some (record { size = n; wide = true }) else None
-number_of (kind.Name n) = None
-number_of (kind.Punct p) = None
-number_of (kind.Key k) = None
-number_of kind.PragmaStart = None
-number_of kind.PragmaEnd = None
+abbrev pub numeral_of : Kind → Option Numeral
+numeral_of (kind.Number n) = if nat_lt n (2 ^ 31) then Some (record { size = n; wide = false }) else None
+numeral_of (kind.Wide n) = if nat_lt n (2 ^ 32) then Some (record { size = n; wide = true }) else None
+numeral_of (kind.Name n) = None
+numeral_of (kind.Punct p) = None
+numeral_of (kind.Key k) = None
+numeral_of kind.PragmaStart = None
+numeral_of kind.PragmaEnd = None
 
 abbrev pub number_at : List Placed → Option Numeral
 number_at [] = None
-number_at (placed k m ∷ ts) = number_of k
+number_at (placed k m ∷ ts) = numeral_of k

@@ -1,5 +1,6 @@
 -- What reading statements and programs gives: one definition for each production.
-use Rattle.std.specs.Prelude.{ℕ, zero, suc, ◌||◌, Bool, true, false, not, List, [], ◌∷◌, length, Option, Some, None, option_map, if◌then◌else◌}
+use Rattle.std.specs.Prelude.{ℕ, zero, suc, ◌-◌, ◌||◌, Bool, true, false, not, List, [], ◌∷◌, length, Option, Some, None, option_map, if◌then◌else◌}
+use Rattle.os_ast.specs.Limits.{depth_limit}
 use Rattle.os_ast.specs.Means.{Placed}
 use Rattle.os_ast.specs.Trees as tree
 use Rattle.os_ast.specs.Trees.{ExprTree, TargetTree, IndexTree, Args, DeclaratorTree, ChangeTree, StartTree, JoinTree}
@@ -349,6 +350,10 @@ inner (suc d) = Some (record {
   stmt = stmt_on (inner d);
   item = block_item (below d) (stmt_on (inner d));
 })
+
+-- What is read in a program: a construct that stands in no other one is the first of at most `depth_limit`, and so one less may stand in it.
+abbrev pub outermost : Option Inner
+outermost = inner (depth_limit - 1)
 
 -- type name
 unfoldable pub param : Reader Param

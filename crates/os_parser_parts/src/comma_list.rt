@@ -23,7 +23,7 @@ pub trait Production {
     /// What reading one gives.
     ghost reads: { Self → Reader Tree };
 
-    /// Reads one.
+    /// Reads one item.
     fn read(&self, alloc: Global, cursor: &mut Cursor<'_>) -> Result<Self::Item, ProductionError>
         ensures gives { Gives view result cursor.new (reads self.now cursor.old) }
         ensures within { length cursor.new ≤ length cursor.old };

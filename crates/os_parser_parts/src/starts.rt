@@ -3,7 +3,7 @@
 ghost use Rattle.std.specs.Prelude.{◌≡◌};
 ghost use Rattle.os_lexer.specs.declared.token.Kind.TheVariants as kind;
 ghost use Rattle.os_parser_grammar.specs.Beginners.{punct_stmt, key_stmt, stmt_start, stmt_at, punct_change};
-ghost use Rattle.os_parser_grammar.specs.Beginners.{change_sign, change_at, name_of, name_at, number_of, number_at};
+ghost use Rattle.os_parser_grammar.specs.Beginners.{change_sign, change_at, name_of, name_at, numeral_of, number_at};
 
 use os_ast::{Assign, Binary, Step};
 use os_lexer::{Key, Kind, Punct};
@@ -201,7 +201,7 @@ pub(crate) fn name_at(cursor: &Cursor<'_>) -> Option<u32>
 }
 
 fn small(size: u32) -> Option<Numeral>
-    ensures { result ≡ number_of (kind.Number size) }
+    ensures { result ≡ numeral_of (kind.Number size) }
 {
     if size < NUMBER_BOUND {
         Some(Numeral { size, wide: false })
@@ -212,13 +212,13 @@ fn small(size: u32) -> Option<Numeral>
 
 /// Each wide number is one that a program may have, since it has 32 bits.
 fn wide(size: u32) -> Option<Numeral>
-    ensures { result ≡ number_of (kind.Wide size) }
+    ensures { result ≡ numeral_of (kind.Wide size) }
 {
     Some(Numeral { size, wide: true })
 }
 
 fn number_of(kind: Kind) -> Option<Numeral>
-    ensures { result ≡ number_of kind }
+    ensures { result ≡ numeral_of kind }
 {
     match kind {
         Kind::Number(size) => small(size),

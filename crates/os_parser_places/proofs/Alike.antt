@@ -7,7 +7,7 @@ use Rattle.os_parser_grammar.specs.Operands.{operator_at, start_at}
 use Rattle.os_parser_grammar.specs.Reading.{Read, Reader, got, fails, ◌>>=◌, begins, expect}
 use Rattle.os_parser_grammar.proofs.Tokens.{length-after}
 
--- The first so many tokens, and the next one, are of the same kinds; behind these the lists are any two.
+-- The first tokens, as many as the number says, and the next one are of the same kinds; behind these the lists are any two.
 pub data Alike (xs ys : List Placed) : ℕ → List Placed → List Placed → Type 0 where
   last : {k : Kind} {m n : Mark} → Alike xs ys 0 (placed k m ∷ xs) (placed k n ∷ ys)
   more : {d : ℕ} {k : Kind} {m n : Mark} {ts us : List Placed} → Alike xs ys d ts us → Alike xs ys (suc d) (placed k m ∷ ts) (placed k n ∷ us)

@@ -12,13 +12,13 @@ use Rattle.os_parser_grammar.specs.Statements.{many, list_of}
 use Rattle.os_parser_grammar.proofs.Tokens.{length-after}
 use Rattle.os_parser_places.proofs.Alike.{Alike, last, more, left, Shrinks, flat, left-then, left-if, begins-alike, start-alike, length-alike}
 
--- Both give alike, and at least so many tokens were taken; or both refuse alike; or the first goes beyond.
+-- Both give alike, and at least `k` tokens were taken; or both refuse alike; or the first goes beyond.
 pub data Goes {A : Type 0} (S : A → ℕ) (xs ys : List Placed) (k d : ℕ) : Read A → Read A → Type 0 where
   both : {x y : A} {e : ℕ} {ts us : List Placed} → S x ≡ S y → Alike xs ys e ts us → e + k ≤ d → Goes S xs ys k d (got x ts) (got y us)
   neither : {e : ℕ} {ts us : List Placed} → Alike xs ys e ts us → Goes S xs ys k d (fails ts) (fails us)
   past : {r s : Read A} → left r ≤ length xs → Goes S xs ys k d r s
 
--- two readers that go alike, and take at least so many tokens
+-- two readers that go alike, and take at least `k` tokens
 pub record Pair {A : Type 0} (S : A → ℕ) (k : ℕ) (r s : Reader A) : Type 0 where
   pub small : Shrinks r
   pub goes : {xs ys : List Placed} {d : ℕ} {ts us : List Placed} → Alike xs ys d ts us → Goes S xs ys k d (r ts) (s us)

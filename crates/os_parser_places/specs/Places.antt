@@ -4,9 +4,9 @@ use Rattle.os_ast.specs.Fronts.{IsPlace}
 use Rattle.os_ast.specs.Means.{Placed, placed_from}
 use Rattle.os_lexer.specs.declared.token.Token.{Token}
 use Rattle.os_parser_grammar.specs.Reading.{fails}
-use Rattle.os_parser_grammar.specs.Statements.{inner, program}
+use Rattle.os_parser_grammar.specs.Statements.{outermost, program}
 
 -- It refuses at the place, which is before the tokens that are left.
 abbrev pub RefusedAtItsPlace : Type 0
-RefusedAtItsPlace = (tokens : List Token) (rest : List Placed) → program (inner 199) (placed_from 0 tokens) ≡ fails rest →
+RefusedAtItsPlace = (tokens : List Token) (rest : List Placed) → program outermost (placed_from 0 tokens) ≡ fails rest →
     IsPlace tokens (length tokens - length rest)

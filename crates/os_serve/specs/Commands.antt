@@ -7,15 +7,16 @@ use Rattle.osrun_core_words.specs.Command.{command}
 use Rattle.os_serve.specs.Command.{Text, is_serve}
 use Rattle.os_serve_answers.specs.Replies.{no_job, reply_by}
 use Rattle.os_serve_jobs.specs.Answers.{Reply}
-use Rattle.os_serve_jobs.specs.MemorySinkStates.{MemorySinkState, fresh_kept}
+use Rattle.os_serve_jobs.specs.MemorySinkStates.{MemorySinkState, fresh_kept, output_room}
 use Rattle.os_serve_jobs.specs.Words.{IsText, line_words}
 
--- how many bytes the output and the report of a job may have; no job has more
-abbrev pub output_room : ℕ
-output_room = 67108864
-
+-- how many bytes the report of a job may have; no job has more
 abbrev pub report_room : ℕ
 report_room = 8400000
+
+-- how many jobs wait at most beside the one that runs
+abbrev pub most_waiting : ℕ
+most_waiting = 15
 
 -- a sink in memory as a sink: it tells its bytes, and fails where it finds no memory
 abbrev pub kept_sink : SinkView MemorySinkState

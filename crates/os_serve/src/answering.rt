@@ -1,6 +1,6 @@
 ghost use Rattle.std.specs.Prelude.{◌≡◌, ◌<◌, ◌≤◌, ◌∷◌, ℕ, IsTrue, List, max, vec_len};
 ghost use Rattle.os_serve.specs.Command.{MayRun, MayServe};
-ghost use Rattle.os_serve.specs.Commands.{IsReplyTo};
+ghost use Rattle.os_serve.specs.Commands.{IsReplyTo, most_waiting};
 ghost use Rattle.os_serve_answers.specs.Answered.{AnswersAll, AnswersNext};
 ghost use Rattle.os_serve_jobs.specs.Reading.{IsFresh, IsReading, waiting_lines};
 ghost use Rattle.os_serve_jobs.specs.Words.{IsText};
@@ -33,7 +33,7 @@ fn answer_next<R: Threads + Sync, J: Files + Send, F: Files + Send, O: Sink, G: 
     ensures is_reading { IsReading reading.new }
     ensures given { J.given jobs.new ≡ reading.new.total }
     ensures may { F.may files.new ≡ F.may files.old }
-    ensures few { vec_len waiting.new ≤ max 15 (vec_len waiting.old) }
+    ensures few { vec_len waiting.new ≤ max most_waiting (vec_len waiting.old) }
     ensures next { AnswersNext J.Files jobs.old jobs.new reading.old reading.new (waiting_lines waiting.old.items) (waiting_lines waiting.new.items)
         (IsReplyTo F.Files) files.old files.new O.Sink out.old out.new number result }
 {

@@ -3,7 +3,7 @@
 ghost use Rattle.std.specs.Prelude.{◌≡◌, ◌≤◌, IfOk, OnErr, max, vec_len};
 ghost use denote.Param.Send.{IsSync};
 ghost use Rattle.os_serve.specs.Command.{MayRun};
-ghost use Rattle.os_serve.specs.Commands.{IsReplyTo};
+ghost use Rattle.os_serve.specs.Commands.{IsReplyTo, most_waiting};
 ghost use Rattle.os_serve_answers.specs.Replies.{reply_of};
 ghost use Rattle.os_serve_jobs.specs.Reading.{IsReading, ReadsOn, waiting_lines};
 ghost use Rattle.os_serve_jobs.specs.Words.{IsText};
@@ -19,7 +19,7 @@ use std::thread::{Threads, join_mut};
 /// How many jobs wait at most, with the one that runs.
 const WAITING: usize = 16;
 
-/// Runs the job of a line, and reads on beside it until so many jobs wait, or none can come any more. Lines that were read already are
+/// Runs the job of a line, and reads on beside it until `WAITING` jobs wait, this one among them, or none can come any more. Lines that were read already are
 /// cut off first, so that nothing is read where enough jobs wait then. It answers what the job came to, and whether memory was found
 /// for what was read.
 pub(crate) fn answer_beside<R: Threads + Sync, J: Files + Send, F: Files + Send, G: Gate>(
@@ -38,7 +38,7 @@ pub(crate) fn answer_beside<R: Threads + Sync, J: Files + Send, F: Files + Send,
     ensures is_reading { IsReading reading.new }
     ensures given { J.given jobs.new ≡ reading.new.total }
     ensures reads { ReadsOn J.Files jobs.old jobs.new reading.old reading.new (waiting_lines waiting.old.items) (waiting_lines waiting.new.items) }
-    ensures few { vec_len waiting.new ≤ max 15 (vec_len waiting.old) }
+    ensures few { vec_len waiting.new ≤ max most_waiting (vec_len waiting.old) }
     ensures reply { IfOk result.0 (λ answer. IsReplyTo F.Files files.old files.new line.now (reply_of answer)) }
     ensures files { OnErr result.0 (files.new ≡ files.old) }
     ensures may { F.may files.new ≡ F.may files.old }
@@ -50,7 +50,7 @@ pub(crate) fn answer_beside<R: Threads + Sync, J: Files + Send, F: Files + Send,
     both(rt, alloc, jobs, reading, waiting, line, files, gate)
 }
 
-/// Does both at once.
+/// Answers the line and reads on at the same time.
 fn both<R: Threads + Sync, J: Files + Send, F: Files + Send, G: Gate>(
     rt: &R,
     alloc: Global,
@@ -67,7 +67,7 @@ fn both<R: Threads + Sync, J: Files + Send, F: Files + Send, G: Gate>(
     ensures is_reading { IsReading reading.new }
     ensures given { J.given jobs.new ≡ reading.new.total }
     ensures reads { ReadsOn J.Files jobs.old jobs.new reading.old reading.new (waiting_lines waiting.old.items) (waiting_lines waiting.new.items) }
-    ensures few { vec_len waiting.new ≤ max 15 (vec_len waiting.old) }
+    ensures few { vec_len waiting.new ≤ max most_waiting (vec_len waiting.old) }
     ensures reply { IfOk result.0 (λ answer. IsReplyTo F.Files files.old files.new line.now (reply_of answer)) }
     ensures files { OnErr result.0 (files.new ≡ files.old) }
     ensures may { F.may files.new ≡ F.may files.old }
@@ -77,7 +77,7 @@ fn both<R: Threads + Sync, J: Files + Send, F: Files + Send, G: Gate>(
         ensures { IsReading reading.exit.now × (J.given jobs.exit.now ≡ reading.exit.now.total)
             × ReadsOn J.Files jobs.entry.now jobs.exit.now reading.entry.now reading.exit.now (waiting_lines waiting.entry.now.items)
             (waiting_lines waiting.exit.now.items)
-            × (vec_len waiting.exit.now ≤ max 15 (vec_len waiting.entry.now)) }
+            × (vec_len waiting.exit.now ≤ max most_waiting (vec_len waiting.entry.now)) }
     { reading.read_on(alloc, jobs, waiting, WAITING - 1) };
     let mut run = || -> Result<JobAnswer, Memory>
         requires { IsSync R.row × IsSync G.row × (IsText line.now → MayRun (F.may files.now) line.now) }

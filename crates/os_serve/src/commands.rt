@@ -10,14 +10,12 @@ ghost use Rattle.os_serve_jobs.specs.Words.{IsText};
 use crate::asked::asks_to_serve;
 use os_io::{Files, Memory};
 use os_serve_answers::JobAnswer;
-use os_serve_jobs::{MemorySink, words_of};
+use os_serve_jobs::{MemorySink, OUTPUT_ROOM, words_of};
 use osrun_core::{Gate, run_words};
 use std::alloc::Global;
 use std::thread::Threads;
 
-/// How many bytes the output of a job may have.
-const OUTPUT_ROOM: u32 = 67_108_864;
-/// How many bytes its report may have.
+/// How many bytes the report of a job may have.
 const REPORT_ROOM: u32 = 8_400_000;
 
 /// Runs the job of a line. `Memory` comes where its words find none, and leaves the files as they were.

@@ -1,5 +1,5 @@
 ghost use Rattle.std.specs.Prelude.{IsTrue};
-ghost use Rattle.osrun_core_jobs.specs.Status.{code_of};
+ghost use Rattle.osrun_core_jobs.specs.Status.{status_code};
 ghost use Rattle.os_serve.specs.Command.{MayServe};
 ghost use Rattle.os_serve.specs.Commands.{IsReplyTo};
 ghost use Rattle.os_serve_answers.specs.Serving.{Serves};
@@ -27,7 +27,7 @@ pub(crate) fn serve<R: Threads + Sync, J: Files + Send, F: Files + Send, O: Sink
     requires jobs { IsTrue (J.may jobs.old (J.opens jobs.old) name.now) }
     requires files { MayServe (J.holds jobs.old name.now) (F.may files.old) }
     ensures { Serves J.Files jobs.old jobs.new (IsReplyTo F.Files) files.old files.new O.Sink out.old out.new E.Sink report.old report.new
-        name.now (code_of result) }
+        name.now (status_code result) }
 {
     let mut reading = Reading::new(alloc);
     match answer_all(rt, alloc, name, jobs, &mut reading, files, out, gate) {

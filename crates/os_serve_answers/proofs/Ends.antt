@@ -5,7 +5,7 @@ use Rattle.std.proofs.lemmas.List.{take_all}
 use Rattle.os_io.specs.Counts.{HasRisen}
 use Rattle.os_io.specs.declared.files.Files.{Ghosts as FilesView}
 use Rattle.os_io.specs.declared.sink.Sink.{Ghosts as SinkView}
-use Rattle.osrun_core_jobs.specs.Status.{code_of}
+use Rattle.osrun_core_jobs.specs.Status.{status_code}
 use Rattle.osrun_core_jobs.specs.Telling.{Took}
 use Rattle.osrun_core_jobs.specs.declared.status.Status.{Status}
 use Rattle.osrun_core_jobs.specs.declared.status.Status.TheVariants as statuses
@@ -26,7 +26,7 @@ module _ {J F O E : Type 0} (of_jobs : FilesView J) (jobs_old jobs : J) (run : J
     (of_report : SinkView E) (report_old report : E) (name : List ℕ) where
   serves : (lines : List (List ℕ)) (replies : List Reply) (status : Status) → AreReplies run files_old files lines replies
       → ServedCause of_jobs jobs_old jobs of_out out_old out of_report report_old report name lines replies status
-      → Serves of_jobs jobs_old jobs run files_old files of_out out_old out of_report report_old report name (code_of status)
+      → Serves of_jobs jobs_old jobs run files_old files of_out out_old out of_report report_old report name (status_code status)
   serves lines replies status are cause = record {
     lines = lines;
     replies = replies;
@@ -83,7 +83,7 @@ module _ {J F O E : Type 0} (of_jobs : FilesView J) (jobs_old jobs : J) (run : J
   pub served_all : (reading : Reading) (status : Status) → IsReading reading → IsDone reading
       → IsAnswered of_jobs (of_jobs.holds jobs_old name) (of_jobs.faults jobs_old) jobs reading run files_old files of_out out_old out
       → EndsBy of_report report_old report reading.source status
-      → Serves of_jobs jobs_old jobs run files_old files of_out out_old out of_report report_old report name (code_of status)
+      → Serves of_jobs jobs_old jobs run files_old files of_out out_old out of_report report_old report name (status_code status)
   served_all reading status is done a ends =
       let is_line : IsLine (uncut reading) = subst IsLine (sym (uncut-line reading done.all_cut)) is.is_line in
       serves a.lines a.replies status a.are_replies
@@ -126,7 +126,7 @@ module _ {J F O E : Type 0} (of_jobs : FilesView J) (jobs_old jobs : J) (run : J
       front_of (inr none) = record { given = given; front = inr (none, s.fault) }
 
   pub served_short : (reading : Reading) → IsOutOfOutput of_jobs (of_jobs.holds jobs_old name) (of_jobs.faults jobs_old) jobs reading run files_old files of_out out_old out
-      → report ≡ report_old → Serves of_jobs jobs_old jobs run files_old files of_out out_old out of_report report_old report name (code_of statuses.WriteFault)
+      → report ≡ report_old → Serves of_jobs jobs_old jobs run files_old files of_out out_old out of_report report_old report name (status_code statuses.WriteFault)
   served_short reading a kept = serves a.lines a.replies statuses.WriteFault a.are_replies (record {
     first = first_by a.lines a.waiting a.has_read.read (uncut reading) reading.source a.has_read.given a.has_read.stands;
     output = a.output;
@@ -134,7 +134,7 @@ module _ {J F O E : Type 0} (of_jobs : FilesView J) (jobs_old jobs : J) (run : J
   })
 
   pub served_until : (reading : Reading) → IsOutOfMemory of_jobs (of_jobs.holds jobs_old name) (of_jobs.faults jobs_old) jobs reading run files_old files of_out out_old out
-      → report ≡ report_old → Serves of_jobs jobs_old jobs run files_old files of_out out_old out of_report report_old report name (code_of statuses.NoMemory)
+      → report ≡ report_old → Serves of_jobs jobs_old jobs run files_old files of_out out_old out of_report report_old report name (status_code statuses.NoMemory)
   served_until reading a kept = serves a.lines a.replies statuses.NoMemory a.are_replies (record {
     first = first_by a.lines a.waiting a.has_read.read (uncut reading) reading.source a.has_read.given a.has_read.stands;
     output = a.output;
@@ -143,6 +143,6 @@ module _ {J F O E : Type 0} (of_jobs : FilesView J) (jobs_old jobs : J) (run : J
 
   pub served_stopped : (reading : Reading) (stop : ServeError)
       → StopsServing of_jobs (of_jobs.holds jobs_old name) (of_jobs.faults jobs_old) jobs reading run files_old files of_out out_old out stop
-      → report ≡ report_old → Serves of_jobs jobs_old jobs run files_old files of_out out_old out of_report report_old report name (code_of (stop_status stop))
+      → report ≡ report_old → Serves of_jobs jobs_old jobs run files_old files of_out out_old out of_report report_old report name (status_code (stop_status stop))
   served_stopped reading stops.Memory a kept = served_until reading a kept
   served_stopped reading stops.Write a kept = served_short reading a kept

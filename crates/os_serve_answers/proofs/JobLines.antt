@@ -8,7 +8,8 @@ use Rattle.std.proofs.lemmas.List.Elements.{All-take}
 use Rattle.std.proofs.Math.Seq.{take-append_seam, take-append-add}
 use Rattle.os_io.specs.declared.files.Files.{Ghosts as FilesView}
 use Rattle.os_serve_jobs.proofs.FirstJobs.{told_front}
-use Rattle.os_serve_jobs.specs.Lines.{IsEndedIn, IsJobIn, IsLine, StartsWith, ended, last_line}
+use Rattle.os_io.specs.Lines.{ended_line}
+use Rattle.os_serve_jobs.specs.Lines.{IsEndedIn, IsJobIn, IsLine, StartsWith, last_line}
 use Rattle.os_serve_jobs.specs.Reading.{HasRead, StandsBy, uncut}
 use Rattle.os_serve_jobs.specs.declared.reading.Reading.{Reading}
 use Rattle.os_serve_jobs.specs.declared.input_state.InputState.{InputState}
@@ -17,17 +18,17 @@ use Rattle.os_serve_jobs.specs.declared.input_state.InputState.TheVariants.{AtEn
 -- ---- how many lines there are
 
 -- each line has its line feed, so there are no more lines than bytes
-pub lines_within : (lines : List (List ℕ)) → length lines ≤ length (flat_map ended lines)
+pub lines_within : (lines : List (List ℕ)) → length lines ≤ length (flat_map ended_line lines)
 lines_within [] = omega arith
 lines_within (line ∷ lines) =
     let more = lines_within lines in
-    let each = length-append (line ++ 10 ∷ []) (flat_map ended lines) in
+    let each = length-append (line ++ 10 ∷ []) (flat_map ended_line lines) in
     let one = length-append line (10 ∷ []) in
     omega (arith, more, each, one)
 
 starts_within : (bytes left : List ℕ) (lines : List (List ℕ)) → StartsWith bytes lines left → length lines + length left ≤ length bytes
 starts_within bytes left lines starts =
-    let all = ap length starts.bytes_are ∙ length-append (flat_map ended lines) left in
+    let all = ap length starts.bytes_are ∙ length-append (flat_map ended_line lines) left in
     let few = lines_within lines in
     omega (arith, all, few)
 
@@ -39,7 +40,7 @@ last_within (byte ∷ bytes) = omega arith
 
 -- a line among those with which a front begins
 among : (bytes front left behind : List ℕ) (earlier : List (List ℕ)) (line : List ℕ) (more : List (List ℕ)) → bytes ≡ front ++ behind
-    → StartsWith front (earlier ++ line ∷ more) left → StartsWith bytes (earlier ++ line ∷ []) (flat_map ended more ++ (left ++ behind))
+    → StartsWith front (earlier ++ line ∷ more) left → StartsWith bytes (earlier ++ line ∷ []) (flat_map ended_line more ++ (left ++ behind))
 among bytes front left behind earlier line more is starts =
     let first = earlier ++ line ∷ [] in
     let parts : earlier ++ line ∷ more ≡ first ++ more = sym (append_assoc earlier (line ∷ []) more) in
@@ -47,9 +48,9 @@ among bytes front left behind earlier line more is starts =
     record {
       bytes_are =
           is
-          ∙ ap (λ b. b ++ behind) (s.bytes_are ∙ ap (λ t. t ++ left) (flat_map-append ended first more) ∙ append_assoc (flat_map ended first) (flat_map ended more) left)
-          ∙ append_assoc (flat_map ended first) (flat_map ended more ++ left) behind
-          ∙ ap (λ t. flat_map ended first ++ t) (append_assoc (flat_map ended more) left behind);
+          ∙ ap (λ b. b ++ behind) (s.bytes_are ∙ ap (λ t. t ++ left) (flat_map-append ended_line first more) ∙ append_assoc (flat_map ended_line first) (flat_map ended_line more) left)
+          ∙ append_assoc (flat_map ended_line first) (flat_map ended_line more ++ left) behind
+          ∙ ap (λ t. flat_map ended_line first ++ t) (append_assoc (flat_map ended_line more) left behind);
       each = subst (All IsLine) (take-append_seam first more) (All-take IsLine (length first) (first ++ more) s.each);
     }
 

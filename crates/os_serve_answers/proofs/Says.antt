@@ -5,7 +5,7 @@ use Rattle.std.proofs.lemmas.List.{length-append, take_all}
 use Rattle.os_io.specs.Counts.{HasRisen}
 use Rattle.os_io.specs.declared.files.Files.{Ghosts as FilesView}
 use Rattle.os_io.specs.declared.sink.Sink.{Ghosts as SinkView}
-use Rattle.osrun_core_jobs.specs.Status.{code_of}
+use Rattle.osrun_core_jobs.specs.Status.{status_code}
 use Rattle.osrun_core_jobs.specs.Telling.{HasTrouble}
 use Rattle.osrun_core_jobs.specs.declared.status.Status.{Status}
 use Rattle.osrun_core_jobs.specs.declared.status.Status.TheVariants as statuses
@@ -27,7 +27,7 @@ status_at (suc (suc (suc (suc (suc (suc zero)))))) = statuses.WriteFault
 status_at (suc (suc (suc (suc (suc (suc (suc zero))))))) = statuses.NoMemory
 status_at (suc (suc (suc (suc (suc (suc (suc (suc n)))))))) = statuses.NotReplayed
 
-of_code : (s : Status) → status_at (code_of s) ≡ s
+of_code : (s : Status) → status_at (status_code s) ≡ s
 of_code statuses.AllDone = refl
 of_code statuses.NotAllDone = refl
 of_code statuses.BadWords = refl
@@ -39,7 +39,7 @@ of_code statuses.NoMemory = refl
 of_code statuses.NotReplayed = refl
 
 -- a number is that of one status
-same_status : (status : ℕ) (one other : Status) → status ≡ code_of one → status ≡ code_of other → one ≡ other
+same_status : (status : ℕ) (one other : Status) → status ≡ status_code one → status ≡ status_code other → one ≡ other
 same_status status one other a b = sym (of_code one) ∙ ap status_at (sym a ∙ b) ∙ of_code other
 
 -- it is neither 0 nor 4
@@ -124,7 +124,7 @@ module _ {J F O E : Type 0} (of_jobs : FilesView J) (jobs_old jobs : J) (run : J
     (of_report : SinkView E) (report_old report : E) (name : List ℕ) (status : ℕ)
     (s : Serves of_jobs jobs_old jobs run files_old files of_out out_old out of_report report_old report name status) where
   -- the cause, of the status that it is
-  cause_of : (is : Status) → status ≡ code_of is
+  cause_of : (is : Status) → status ≡ status_code is
       → ServedCause of_jobs jobs_old jobs of_out out_old out of_report report_old report name s.lines s.replies is
   cause_of is at =
       subst (ServedCause of_jobs jobs_old jobs of_out out_old out of_report report_old report name s.lines s.replies) (same_status status s.answered is s.status_is at) s.cause
@@ -145,7 +145,7 @@ module _ {J F O E : Type 0} (of_jobs : FilesView J) (jobs_old jobs : J) (run : J
   stopped at = (s.lines, s.replies, s.are_replies, cause_of statuses.NoMemory at)
 
   -- which statuses there are
-  statuses_by : (is : Status) → status ≡ code_of is → ServedCause of_jobs jobs_old jobs of_out out_old out of_report report_old report name s.lines s.replies is
+  statuses_by : (is : Status) → status ≡ status_code is → ServedCause of_jobs jobs_old jobs of_out out_old out of_report report_old report name s.lines s.replies is
       → (status ≡ 0) ⊎ ((4 ≤ status) × (status ≤ 7))
   statuses_by statuses.AllDone at c = inl at
   statuses_by statuses.NotAllDone at c = absurd c
@@ -161,7 +161,7 @@ module _ {J F O E : Type 0} (of_jobs : FilesView J) (jobs_old jobs : J) (run : J
   statuses_are = statuses_by s.answered s.status_is s.cause
 
   -- where one byte more than the limit was given, and the output had no trouble
-  too_long_by : (is : Status) → status ≡ code_of is → ServedCause of_jobs jobs_old jobs of_out out_old out of_report report_old report name s.lines s.replies is
+  too_long_by : (is : Status) → status ≡ status_code is → ServedCause of_jobs jobs_old jobs of_out out_old out of_report report_old report name s.lines s.replies is
       → jobs_limit < of_jobs.given jobs → (HasTrouble of_out out_old out → ⊥) → (status ≡ 4) ⊎ (status ≡ 7)
   too_long_by statuses.AllDone at c past fine = absurd (let g = c.given in let f = c.fits in omega (arith, g, f, past))
   too_long_by statuses.NotAllDone at c past fine = absurd c
@@ -177,7 +177,7 @@ module _ {J F O E : Type 0} (of_jobs : FilesView J) (jobs_old jobs : J) (run : J
   too_long_always = too_long_by s.answered s.status_is s.cause
 
   -- of a file that tells that it holds more
-  too_long_held_by : (is : Status) → status ≡ code_of is → ServedCause of_jobs jobs_old jobs of_out out_old out of_report report_old report name s.lines s.replies is
+  too_long_held_by : (is : Status) → status ≡ status_code is → ServedCause of_jobs jobs_old jobs of_out out_old out of_report report_old report name s.lines s.replies is
       → (held : List ℕ) → of_jobs.holds jobs_old name ≡ Some held → jobs_limit < length held → (HasRisen (of_jobs.faults jobs_old) (of_jobs.faults jobs) → ⊥)
       → (HasTrouble of_out out_old out → ⊥) → (status ≡ 4) ⊎ (status ≡ 7)
   too_long_held_by statuses.AllDone at c held told past sound fine =
@@ -196,7 +196,7 @@ module _ {J F O E : Type 0} (of_jobs : FilesView J) (jobs_old jobs : J) (run : J
   too_long_held = if_told (of_jobs.holds jobs_old name) _ (too_long_held_by s.answered s.status_is s.cause)
 
   -- where no more than the limit was given, and nothing failed
-  complete_by : (is : Status) → status ≡ code_of is → ServedCause of_jobs jobs_old jobs of_out out_old out of_report report_old report name s.lines s.replies is
+  complete_by : (is : Status) → status ≡ status_code is → ServedCause of_jobs jobs_old jobs of_out out_old out of_report report_old report name s.lines s.replies is
       → of_jobs.given jobs ≤ jobs_limit → (HasRisen (of_jobs.faults jobs_old) (of_jobs.faults jobs) → ⊥) → (HasTrouble of_out out_old out → ⊥)
       → (status ≡ 0) ⊎ (status ≡ 7)
   complete_by statuses.AllDone at c fits sound fine = inl at
@@ -214,7 +214,7 @@ module _ {J F O E : Type 0} (of_jobs : FilesView J) (jobs_old jobs : J) (run : J
   complete_given = complete_by s.answered s.status_is s.cause
 
   -- of a file that tells that it holds no more
-  complete_held_by : (is : Status) → status ≡ code_of is → ServedCause of_jobs jobs_old jobs of_out out_old out of_report report_old report name s.lines s.replies is
+  complete_held_by : (is : Status) → status ≡ status_code is → ServedCause of_jobs jobs_old jobs of_out out_old out of_report report_old report name s.lines s.replies is
       → (held : List ℕ) → of_jobs.holds jobs_old name ≡ Some held → length held ≤ jobs_limit → (HasRisen (of_jobs.faults jobs_old) (of_jobs.faults jobs) → ⊥)
       → (HasTrouble of_out out_old out → ⊥) → (status ≡ 0) ⊎ (status ≡ 7)
   complete_held_by statuses.AllDone at c held told fits sound fine = inl at
@@ -233,7 +233,7 @@ module _ {J F O E : Type 0} (of_jobs : FilesView J) (jobs_old jobs : J) (run : J
   complete = if_told (of_jobs.holds jobs_old name) _ (complete_held_by s.answered s.status_is s.cause)
 
   -- which lines were answered
-  answers_by : (is : Status) → status ≡ code_of is → ServedCause of_jobs jobs_old jobs of_out out_old out of_report report_old report name s.lines s.replies is
+  answers_by : (is : Status) → status ≡ status_code is → ServedCause of_jobs jobs_old jobs of_out out_old out of_report report_old report name s.lines s.replies is
       → AnswersJobs of_jobs jobs_old of_out out_old out name status s.lines s.replies
   answers_by statuses.AllDone at c = record {
     first = if_told (of_jobs.holds jobs_old name) _ (λ held told. all_jobs held s.lines (all_of_whole of_jobs jobs_old jobs name s.lines c.read held told c.front c.at_end c.fits c.all));

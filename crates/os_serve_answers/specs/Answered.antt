@@ -1,6 +1,6 @@
 -- How far the jobs were answered when the server ends, for private functions.
 use Rattle.std.specs.Prelude.{◌≡◌, ℕ, List, ◌++◌, ◌+◌, MatchResult, Option, Result, codes}
-use Rattle.collector.specs.Line.{line}
+use Rattle.os_io.specs.Lines.{ended_line}
 use Rattle.os_io.specs.declared.files.Files.{Ghosts as FilesView}
 use Rattle.os_io.specs.declared.sink.Sink.{Ghosts as SinkView}
 use Rattle.osrun_core_jobs.specs.Telling.{IsCutShort, Tells, Took}
@@ -80,5 +80,5 @@ AnswersAll of_jobs told faults jobs reading run files_old files of_out out_old o
 abbrev pub EndsBy : {E : Type 0} → SinkView E → (report_old report : E) → InputState → Status → Type 0
 EndsBy of_report report_old report Open status = ⊥
 EndsBy of_report report_old report AtEnd status = (status ≡ statuses.AllDone) × (report ≡ report_old)
-EndsBy of_report report_old report TooLong status = (status ≡ statuses.TooLong) × Tells of_report report_old report (line (codes "too long jobs"))
-EndsBy of_report report_old report Failed status = (status ≡ statuses.ReadFault) × Tells of_report report_old report (line (codes "read fault jobs"))
+EndsBy of_report report_old report TooLong status = (status ≡ statuses.TooLong) × Tells of_report report_old report (ended_line (codes "too long jobs"))
+EndsBy of_report report_old report Failed status = (status ≡ statuses.ReadFault) × Tells of_report report_old report (ended_line (codes "read fault jobs"))

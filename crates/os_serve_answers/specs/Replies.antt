@@ -1,7 +1,7 @@
 -- What jobs are answered, whatever runs them.
 use Rattle.std.specs.Prelude.{◌≡◌, ◌==◌, ◌&&◌, ℕ, List, [], ◌∷◌, if◌then◌else◌}
 use Rattle.osrun_core_jobs.specs.Refusal.{usage_line}
-use Rattle.osrun_core_jobs.specs.Status.{code_of}
+use Rattle.osrun_core_jobs.specs.Status.{status_code}
 use Rattle.osrun_core_jobs.specs.declared.status.Status.TheVariants as statuses
 use Rattle.os_serve_answers.specs.declared.job_answer.JobAnswer.{JobAnswer}
 use Rattle.os_serve_answers.specs.declared.job_answer.JobAnswer.TheVariants as answered
@@ -10,11 +10,11 @@ use Rattle.os_serve_jobs.specs.MemorySinkStates.{MemorySinkState}
 
 -- the answer to a line that names no job
 abbrev pub no_job : Reply
-no_job = record { status = code_of statuses.BadWords; output = []; told = usage_line }
+no_job = record { status = status_code statuses.BadWords; output = []; told = usage_line }
 
 -- the answer to a job whose sinks find no memory
 abbrev pub no_memory : Reply
-no_memory = record { status = code_of statuses.NoMemory; output = []; told = [] }
+no_memory = record { status = status_code statuses.NoMemory; output = []; told = [] }
 
 -- The answer to a job whose command was called with such sinks: its status, and what they took. A sink in memory that has room fails
 -- where it finds no memory.

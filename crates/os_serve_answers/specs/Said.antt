@@ -2,7 +2,7 @@
 use Rattle.std.specs.Prelude.{◌≡◌, ◌≢◌, ◌⊎◌, ℕ, List, IfSome}
 use Rattle.os_io.specs.declared.files.Files.{Ghosts as FilesView}
 use Rattle.os_io.specs.declared.sink.Sink.{Ghosts as SinkView}
-use Rattle.osrun_core_jobs.specs.Status.{code_of}
+use Rattle.osrun_core_jobs.specs.Status.{status_code}
 use Rattle.osrun_core_jobs.specs.Telling.{IsCutShort, Took}
 use Rattle.osrun_core_jobs.specs.declared.status.Status.TheVariants as statuses
 use Rattle.os_serve_answers.specs.Replies.{AreReplies, JobRun}
@@ -19,7 +19,7 @@ HaveReplies run files_old files_new said =
 pub record AnswersJobs {J O : Type 0} (of_jobs : FilesView J) (jobs_old : J) (of_out : SinkView O) (out_old out_new : O) (name : List ℕ)
     (status : ℕ) (lines : List (List ℕ)) (replies : List Reply) : Type 0 where
   pub first : IfSome (of_jobs.holds jobs_old name) (λ held. AreFirstJobs held lines)
-  pub all : (status ≡ code_of statuses.AllDone) ⊎ (status ≡ code_of statuses.TooLong)
+  pub all : (status ≡ status_code statuses.AllDone) ⊎ (status ≡ status_code statuses.TooLong)
       → IfSome (of_jobs.holds jobs_old name) (λ held. AreJobs held lines)
-  pub took : status ≢ code_of statuses.WriteFault → Took of_out out_old out_new (answers replies)
-  pub cut_short : status ≡ code_of statuses.WriteFault → IsCutShort of_out out_old out_new (answers replies)
+  pub took : status ≢ status_code statuses.WriteFault → Took of_out out_old out_new (answers replies)
+  pub cut_short : status ≡ status_code statuses.WriteFault → IsCutShort of_out out_old out_new (answers replies)

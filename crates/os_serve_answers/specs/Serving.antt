@@ -1,12 +1,12 @@
 -- What a call of the server leaves.
 use Rattle.std.specs.Prelude.{◌≡◌, ◌≤◌, ◌+◌, ◌⊎◌, ℕ, List, [], ◌++◌, codes, length, take}
 use Rattle.std.specs.Io.KnownBytes.{IsAtEnd, prepend_known}
-use Rattle.collector.specs.Line.{line}
+use Rattle.os_io.specs.Lines.{ended_line}
 use Rattle.os_io.specs.Counts.{HasRisen}
 use Rattle.os_io.specs.declared.files.Files.{Ghosts as FilesView}
 use Rattle.os_io.specs.declared.sink.Sink.{Ghosts as SinkView}
 use Rattle.osrun_core_jobs.specs.Refusal.{usage_line}
-use Rattle.osrun_core_jobs.specs.Status.{code_of}
+use Rattle.osrun_core_jobs.specs.Status.{status_code}
 use Rattle.osrun_core_jobs.specs.Telling.{IsCutShort, Tells, Took}
 use Rattle.osrun_core_jobs.specs.declared.status.Status.{Status}
 use Rattle.osrun_core_jobs.specs.declared.status.Status.TheVariants as statuses
@@ -44,7 +44,7 @@ pub record IsCutOff {J O E : Type 0} (of_jobs : FilesView J) (jobs_old jobs_new 
   pub no_fault : of_jobs.faults jobs_new ≡ of_jobs.faults jobs_old
   pub all : AreEnded (take jobs_limit read) lines
   pub output : Took of_out out_old out_new (answers replies)
-  pub report : Tells of_report report_old report_new (line (codes "too long jobs"))
+  pub report : Tells of_report report_old report_new (ended_line (codes "too long jobs"))
 
 -- 5: the file of jobs counted a fault, and the jobs that ended before it were answered.
 pub record IsBroken {J O E : Type 0} (of_jobs : FilesView J) (jobs_old jobs_new : J) (of_out : SinkView O) (out_old out_new : O)
@@ -55,7 +55,7 @@ pub record IsBroken {J O E : Type 0} (of_jobs : FilesView J) (jobs_old jobs_new 
   pub fault : HasRisen (of_jobs.faults jobs_old) (of_jobs.faults jobs_new)
   pub all : AreEnded read lines
   pub output : Took of_out out_old out_new (answers replies)
-  pub report : Tells of_report report_old report_new (line (codes "read fault jobs"))
+  pub report : Tells of_report report_old report_new (ended_line (codes "read fault jobs"))
 
 -- The lines are the first jobs of the file, as far as it was read: of those that end in a line feed, or, where it was read to its end
 -- within the limit, of all.
@@ -107,13 +107,13 @@ pub record Serves {J F O E : Type 0} (of_jobs : FilesView J) (jobs_old jobs_new 
   pub replies : List Reply
   pub are_replies : AreReplies run files_old files_new lines replies
   pub answered : Status
-  pub status_is : status ≡ code_of answered
+  pub status_is : status ≡ status_code answered
   pub cause : ServedCause of_jobs jobs_old jobs_new of_out out_old out_new of_report report_old report_new name lines replies answered
 
 -- What a call leaves whose words begin with `serve` and aren't exactly that and a name: it tells so, and touches nothing else.
 pub record RefusesWords {J F O E : Type 0} (jobs_old jobs_new : J) (files_old files_new : F) (out_old out_new : O) (of_report : SinkView E)
     (report_old report_new : E) (status : ℕ) : Type 0 where
-  pub status_is : status ≡ code_of statuses.BadWords
+  pub status_is : status ≡ status_code statuses.BadWords
   pub report : Tells of_report report_old report_new usage_line
   pub jobs_kept : jobs_new ≡ jobs_old
   pub files_kept : files_new ≡ files_old

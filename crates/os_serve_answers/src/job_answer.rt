@@ -1,5 +1,6 @@
 ghost use Rattle.std.specs.Prelude.{◌≡◌, ◌≤◌, length};
 ghost use Rattle.os_serve_answers.specs.Replies.{reply_by, reply_of};
+ghost use Rattle.os_serve_jobs.specs.MemorySinkStates.{output_room};
 
 use os_serve_jobs::MemorySink;
 use osrun_core_jobs::{Status, USAGE};
@@ -48,7 +49,7 @@ impl JobAnswer {
     /// The bytes of the output.
     pub fn output(&self) -> &[u8]
         ensures bytes { result.now ≡ (reply_of self.now).output }
-        ensures within { length result.now ≤ 67108864 }
+        ensures within { length result.now ≤ output_room }
     {
         match self {
             JobAnswer::Done { output, .. } => output.bytes(),
@@ -59,7 +60,7 @@ impl JobAnswer {
     /// The bytes of the report.
     pub fn told(&self) -> &[u8]
         ensures bytes { result.now ≡ (reply_of self.now).told }
-        ensures within { length result.now ≤ 67108864 }
+        ensures within { length result.now ≤ output_room }
     {
         match self {
             JobAnswer::Done { report, .. } => report.bytes(),

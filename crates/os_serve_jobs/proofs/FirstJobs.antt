@@ -11,7 +11,8 @@ use Rattle.std.proofs.Math.Dec.{eqb}
 use Rattle.std.proofs.Math.Seq.{take-append-add}
 use Rattle.std.proofs.lemmas.Option.{same_Some}
 use Rattle.os_io.specs.declared.files.Files.{Ghosts as FilesView}
-use Rattle.os_serve_jobs.specs.Lines.{AreEnded, AreFirstJobs, AreJobs, AreLines, IsLine, StartsWith, ended, jobs_limit, last_line}
+use Rattle.os_io.specs.Lines.{ended_line}
+use Rattle.os_serve_jobs.specs.Lines.{AreEnded, AreFirstJobs, AreJobs, AreLines, IsLine, StartsWith, jobs_limit, last_line}
 use Rattle.os_serve_jobs.specs.Reading.{HasRead, StandsBy, uncut}
 use Rattle.os_serve_jobs.specs.declared.reading.Reading.{Reading}
 use Rattle.os_serve_jobs.specs.declared.input_state.InputState.{InputState}
@@ -50,7 +51,7 @@ split_step byte bytes (inl feed) split = record {
   lines = [] ∷ split.lines;
   rest = split.rest;
   starts = record {
-    bytes_are = ap (λ b. byte ∷ b) split.starts.bytes_are ∙ ap (λ b. b ∷ (flat_map ended split.lines ++ split.rest)) feed.1;
+    bytes_are = ap (λ b. byte ∷ b) split.starts.bytes_are ∙ ap (λ b. b ∷ (flat_map ended_line split.lines ++ split.rest)) feed.1;
     each = All-cons IsLine [] split.lines (All-nil (λ b. b ≢ 10)) split.starts.each;
   };
   no_more = split.no_more;
@@ -79,11 +80,11 @@ no_feeds (byte ∷ line) is =
     (no_feeds line (All-tail (λ b. b ≢ 10) byte line is))
 
 -- the parts between line feeds are the lines, and then the rest
-parts : (lines : List (List ℕ)) (rest : List ℕ) → All IsLine lines → IsLine rest → slice_split (λ byte. eqb byte 10) (flat_map ended lines ++ rest) ≡ lines ++ rest ∷ []
+parts : (lines : List (List ℕ)) (rest : List ℕ) → All IsLine lines → IsLine rest → slice_split (λ byte. eqb byte 10) (flat_map ended_line lines ++ rest) ≡ lines ++ rest ∷ []
 parts [] rest each no_more = slice_split_none (λ byte. eqb byte 10) rest (no_feeds rest no_more)
 parts (line ∷ lines) rest each no_more =
-    ap (slice_split (λ byte. eqb byte 10)) (append_assoc (line ++ 10 ∷ []) (flat_map ended lines) rest ∙ append_assoc line (10 ∷ []) (flat_map ended lines ++ rest))
-    ∙ slice_split_at (λ byte. eqb byte 10) line 10 (flat_map ended lines ++ rest) (no_feeds line (All-head IsLine line lines each)) refl
+    ap (slice_split (λ byte. eqb byte 10)) (append_assoc (line ++ 10 ∷ []) (flat_map ended_line lines) rest ∙ append_assoc line (10 ∷ []) (flat_map ended_line lines ++ rest))
+    ∙ slice_split_at (λ byte. eqb byte 10) line 10 (flat_map ended_line lines ++ rest) (no_feeds line (All-head IsLine line lines each)) refl
     ∙ ap (λ p. line ∷ p) (parts lines rest (All-tail IsLine line lines each) no_more)
 
 -- lists with one more behind them
@@ -133,10 +134,10 @@ joined bytes front behind left lines more rest is starts s = record {
   bytes_are =
       is
       ∙ ap (λ b. b ++ behind) starts.bytes_are
-      ∙ append_assoc (flat_map ended lines) left behind
-      ∙ ap (λ b. flat_map ended lines ++ b) s.bytes_are
-      ∙ sym (append_assoc (flat_map ended lines) (flat_map ended more) rest)
-      ∙ ap (λ b. b ++ rest) (sym (flat_map-append ended lines more));
+      ∙ append_assoc (flat_map ended_line lines) left behind
+      ∙ ap (λ b. flat_map ended_line lines ++ b) s.bytes_are
+      ∙ sym (append_assoc (flat_map ended_line lines) (flat_map ended_line more) rest)
+      ∙ ap (λ b. b ++ rest) (sym (flat_map-append ended_line lines more));
   each = All-append IsLine lines more starts.each s.each;
 }
 

@@ -12,7 +12,8 @@ use Rattle.std.proofs.Math.Seq.{drop-append_seam, take-append_seam, take-append-
 use Rattle.os_io.proofs.Pieces.{prepend_known-prepend}
 use Rattle.os_io.specs.declared.files.Files.{Ghosts as FilesView}
 use Rattle.os_serve_jobs.specs.Cutting.{IsCut, TookPiece}
-use Rattle.os_serve_jobs.specs.Lines.{AreLines, IsLine, StartsWith, ended, jobs_limit, last_line}
+use Rattle.os_io.specs.Lines.{ended_line}
+use Rattle.os_serve_jobs.specs.Lines.{AreLines, IsLine, StartsWith, jobs_limit, last_line}
 use Rattle.os_serve_jobs.specs.Reading.{CutsOn, HasRead, IsOpenAt, ReadSoFar, StandsBy, uncut, waiting_lines}
 use Rattle.os_serve_jobs.specs.declared.reading.Reading.{Reading}
 use Rattle.os_serve_jobs.specs.declared.input_state.InputState.{InputState}
@@ -51,10 +52,10 @@ range-drop items next count filled within =
     ∙ ap (λ n. drop count (take n (drop next items))) (sym m)
 
 -- bytes that are lines and what is left, with more behind them
-longer : (lines : List (List ℕ)) (read line fresh left : List ℕ) → read ≡ flat_map ended lines ++ line → left ≡ line ++ fresh
-    → read ++ fresh ≡ flat_map ended lines ++ left
+longer : (lines : List (List ℕ)) (read line fresh left : List ℕ) → read ≡ flat_map ended_line lines ++ line → left ≡ line ++ fresh
+    → read ++ fresh ≡ flat_map ended_line lines ++ left
 longer lines read line fresh left is more =
-    ap (λ b. b ++ fresh) is ∙ append_assoc (flat_map ended lines) line fresh ∙ ap (λ l. flat_map ended lines ++ l) (sym more)
+    ap (λ b. b ++ fresh) is ∙ append_assoc (flat_map ended_line lines) line fresh ∙ ap (λ l. flat_map ended_line lines ++ l) (sym more)
 
 -- all but the last byte of what was read, and a front of a piece
 up_to : (read piece : List ℕ) (count : ℕ) → length read + (count - 1) ≡ 4194304 → 0 < count → take 4194304 (read ++ take count piece) ≡ read ++ take (count - 1) piece
@@ -66,16 +67,16 @@ up_to read piece count sum some =
 -- what a cut leaves in a piece
 pub same_cut : (waiting_old waiting_new : List (List ℕ)) (line_old line_new xs items : List ℕ) (next filled count : ℕ)
     → IsCut waiting_old waiting_new line_old line_new (slice_range xs next filled) count → xs ≡ items → next ≤ filled → filled ≤ length xs
-    → flat_map ended waiting_new ++ (line_new ++ slice_range items (next + count) filled) ≡ flat_map ended waiting_old ++ (line_old ++ slice_range items next filled)
+    → flat_map ended_line waiting_new ++ (line_new ++ slice_range items (next + count) filled) ≡ flat_map ended_line waiting_old ++ (line_old ++ slice_range items next filled)
 same_cut waiting_old waiting_new line_old line_new xs items next filled count cut same low high =
     let behind = length-drop next xs in
     let range = length-take-le (filled - next) (drop next xs) (omega (arith, behind, high, low)) in
     let within = cut.within in
-    subst (λ i. flat_map ended waiting_new ++ (line_new ++ slice_range i (next + count) filled) ≡ flat_map ended waiting_old ++ (line_old ++ slice_range i next filled)) same
-    (ap (λ r. flat_map ended waiting_new ++ (line_new ++ r)) (range-drop xs next count filled (omega (arith, range, within, low)))
-    ∙ sym (append_assoc (flat_map ended waiting_new) line_new (drop count (slice_range xs next filled)))
+    subst (λ i. flat_map ended_line waiting_new ++ (line_new ++ slice_range i (next + count) filled) ≡ flat_map ended_line waiting_old ++ (line_old ++ slice_range i next filled)) same
+    (ap (λ r. flat_map ended_line waiting_new ++ (line_new ++ r)) (range-drop xs next count filled (omega (arith, range, within, low)))
+    ∙ sym (append_assoc (flat_map ended_line waiting_new) line_new (drop count (slice_range xs next filled)))
     ∙ cut.same
-    ∙ append_assoc (flat_map ended waiting_old) line_old (slice_range xs next filled))
+    ∙ append_assoc (flat_map ended_line waiting_old) line_old (slice_range xs next filled))
 
 -- nothing was cut
 pub cuts_none : (reading : Reading) (waiting : List (List ℕ)) → CutsOn reading reading waiting waiting
@@ -90,7 +91,7 @@ cuts_none reading waiting = record {
 -- one more line was cut, where there was something to cut
 pub cuts_more : (first before reading : Reading) (waiting_first waiting_before waiting : List (List ℕ)) → CutsOn first before waiting_first waiting_before
     → before.next < before.filled → before.filled ≤ vec_len before.piece
-    → flat_map ended waiting ++ uncut reading ≡ flat_map ended waiting_before ++ uncut before → (All IsLine waiting_before → All IsLine waiting)
+    → flat_map ended_line waiting ++ uncut reading ≡ flat_map ended_line waiting_before ++ uncut before → (All IsLine waiting_before → All IsLine waiting)
     → reading.source ≡ before.source → reading.total ≡ before.total → CutsOn first reading waiting_first waiting
 cuts_more first before reading waiting_first waiting_before waiting cuts some within same each source total = record {
   same = same ∙ cuts.same;
@@ -124,23 +125,23 @@ module _ {J : Type 0} (view : FilesView J) (told : Option (List ℕ)) (faults : 
   -- ---- what is cut
 
   starts_cut : (bytes left_old left_new : List ℕ) (before waiting_old waiting_new : List (List ℕ))
-      → flat_map ended waiting_new ++ left_new ≡ flat_map ended waiting_old ++ left_old
+      → flat_map ended_line waiting_new ++ left_new ≡ flat_map ended_line waiting_old ++ left_old
       → (All IsLine waiting_old → All IsLine waiting_new) → StartsWith bytes (before ++ waiting_old) left_old → StartsWith bytes (before ++ waiting_new) left_new
   starts_cut bytes left_old left_new before waiting_old waiting_new same each starts = record {
     bytes_are =
         starts.bytes_are
-        ∙ ap (λ t. t ++ left_old) (flat_map-append ended before waiting_old)
-        ∙ append_assoc (flat_map ended before) (flat_map ended waiting_old) left_old
-        ∙ ap (λ t. flat_map ended before ++ t) (sym same)
-        ∙ sym (append_assoc (flat_map ended before) (flat_map ended waiting_new) left_new)
-        ∙ ap (λ t. t ++ left_new) (sym (flat_map-append ended before waiting_new));
+        ∙ ap (λ t. t ++ left_old) (flat_map-append ended_line before waiting_old)
+        ∙ append_assoc (flat_map ended_line before) (flat_map ended_line waiting_old) left_old
+        ∙ ap (λ t. flat_map ended_line before ++ t) (sym same)
+        ∙ sym (append_assoc (flat_map ended_line before) (flat_map ended_line waiting_new) left_new)
+        ∙ ap (λ t. t ++ left_new) (sym (flat_map-append ended_line before waiting_new));
     each = All-append IsLine before waiting_new
         (subst (All IsLine) (take-append_seam before waiting_old) (All-take IsLine (length before) (before ++ waiting_old) starts.each))
         (each (subst (All IsLine) (drop-append_seam before waiting_old) (All-drop IsLine (length before) (before ++ waiting_old) starts.each)));
   }
 
   cut_stands : (jobs : J) (read left_old left_new : List ℕ) (before waiting_old waiting_new : List (List ℕ)) (source : InputState)
-      → flat_map ended waiting_new ++ left_new ≡ flat_map ended waiting_old ++ left_old → (All IsLine waiting_old → All IsLine waiting_new)
+      → flat_map ended_line waiting_new ++ left_new ≡ flat_map ended_line waiting_old ++ left_old → (All IsLine waiting_old → All IsLine waiting_new)
       → (left_old ≡ [] → (waiting_new ≡ waiting_old) × (left_new ≡ []))
       → StandsBy view told faults jobs (before ++ waiting_old) read left_old source → StandsBy view told faults jobs (before ++ waiting_new) read left_new source
   cut_stands jobs read left_old left_new before waiting_old waiting_new Open same each none s = record {

@@ -1,7 +1,7 @@
 -- What an answer looks like.
 use Rattle.std.specs.Prelude.{ℕ, ◌+◌, List, [], ◌∷◌, ◌++◌, codes, length}
 use Rattle.std.specs.Fmt.{decimal}
-use Rattle.os_serve_jobs.specs.Lines.{ended}
+use Rattle.os_io.specs.Lines.{ended_line}
 
 -- what a job is answered: its status, and the bytes of its output and of its report
 pub record Reply : Type 0 where
@@ -12,7 +12,7 @@ pub record Reply : Type 0 where
 -- the line before the bytes: the job's number, its status, and how many bytes of output and of report follow
 abbrev pub heading : ℕ → (status output told : ℕ) → List ℕ
 heading number status output told =
-    ended (codes "job " ++ decimal number ++ codes " status " ++ decimal status ++ codes " out " ++ decimal output ++ codes " report " ++ decimal told)
+    ended_line (codes "job " ++ decimal number ++ codes " status " ++ decimal status ++ codes " out " ++ decimal output ++ codes " report " ++ decimal told)
 
 -- the answer to a job: that line, then the output, then the report
 abbrev pub answer : ℕ → Reply → List ℕ

@@ -1,6 +1,7 @@
 -- The lines of a file of jobs. A line is seen without the line feed that ends it.
 use Rattle.std.specs.Prelude.{◌≡◌, ◌≢◌, ◌<◌, ◌≤◌, ◌⊎◌, ℕ, List, [], ◌∷◌, ◌++◌, All, length, take}
 use Rattle.std.specs.List.{flat_map}
+use Rattle.os_io.specs.Lines.{ended_line}
 
 -- how many bytes a file of jobs may have
 abbrev pub jobs_limit : ℕ
@@ -10,13 +11,9 @@ jobs_limit = 4194304
 abbrev pub IsLine : List ℕ → Type 0
 IsLine line = All (λ byte. byte ≢ 10) line
 
--- a line with its line feed
-abbrev pub ended : List ℕ → List ℕ
-ended line = line ++ 10 ∷ []
-
 -- The bytes are these lines, each with its line feed, and a rest behind them.
 pub record StartsWith (bytes : List ℕ) (lines : List (List ℕ)) (rest : List ℕ) : Type 0 where
-  pub bytes_are : bytes ≡ flat_map ended lines ++ rest
+  pub bytes_are : bytes ≡ flat_map ended_line lines ++ rest
   pub each : All IsLine lines
 
 -- Those are all lines of the bytes that end in a line feed.

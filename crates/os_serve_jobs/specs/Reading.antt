@@ -7,7 +7,8 @@ use Rattle.std.specs.declared.alloc.Global.{Global}
 use Rattle.std.specs.Io.KnownBytes.{IsAtEnd, prepend_known}
 use Rattle.os_io.specs.Counts.{HasRisen}
 use Rattle.os_io.specs.declared.files.Files.{Ghosts as FilesView}
-use Rattle.os_serve_jobs.specs.Lines.{AreLines, IsLine, StartsWith, ended, jobs_limit}
+use Rattle.os_io.specs.Lines.{ended_line}
+use Rattle.os_serve_jobs.specs.Lines.{AreLines, IsLine, StartsWith, jobs_limit}
 use Rattle.os_serve_jobs.specs.declared.reading.Reading.{Reading}
 use Rattle.os_serve_jobs.specs.declared.input_state.InputState.{InputState}
 use Rattle.os_serve_jobs.specs.declared.input_state.InputState.TheVariants.{AtEnd, Failed, Open, TooLong}
@@ -62,7 +63,7 @@ StandsBy view told faults jobs lines read left AtEnd = IsWhole view told faults 
 StandsBy view told faults jobs lines read left TooLong = IsTooLong view told faults jobs lines read left
 StandsBy view told faults jobs lines read left Failed = IsFailedAt view told faults jobs lines read left
 
--- Of a file whose content is told or not, with so many faults counted before it was opened: as many bytes as it has given were
+-- Of a file whose content is told or not, with `faults` faults counted before it was opened: as many bytes as it has given were
 -- read, and cut into these lines so far.
 pub record HasRead {J : Type 0} (view : FilesView J) (told : Option (List ℕ)) (faults : ℕ) (jobs : J) (reading : Reading)
     (lines : List (List ℕ)) : Type 0 where
@@ -79,7 +80,7 @@ ReadsOn view jobs_old jobs_new reading_old reading_new waiting_old waiting_new =
 
 -- Nothing was read, and lines were cut off what was: lines, and what is not cut yet, are what they were, one after the other.
 pub record CutsOn (reading_old reading_new : Reading) (waiting_old waiting_new : List (List ℕ)) : Type 0 where
-  pub same : flat_map ended waiting_new ++ uncut reading_new ≡ flat_map ended waiting_old ++ uncut reading_old
+  pub same : flat_map ended_line waiting_new ++ uncut reading_new ≡ flat_map ended_line waiting_old ++ uncut reading_old
   pub each : All IsLine waiting_old → All IsLine waiting_new
   pub source : reading_new.source ≡ reading_old.source
   pub total : reading_new.total ≡ reading_old.total

@@ -16,6 +16,6 @@ mod reading;
 mod words;
 
 pub use input_state::InputState;
-pub use memory_sink::MemorySink;
+pub use memory_sink::{MemorySink, OUTPUT_ROOM};
 pub use reading::{Reading, take_first};
 pub use words::words_of;

@@ -1,12 +1,15 @@
 ghost use Rattle.std.specs.Prelude.{◌≡◌, ◌==◌, ◌≤◌, ◌++◌, length, not, IfOk, OnOk, OnErr};
 ghost use Rattle.os_io.specs.Counts.{HasRisen, raised};
-ghost use Rattle.os_serve_jobs.specs.MemorySinkStates.{fresh_kept};
+ghost use Rattle.os_serve_jobs.specs.MemorySinkStates.{fresh_kept, output_room};
 
 use os_io::{Failed, Sink};
 use std::alloc::Global;
 use std::marker::Model;
 
-/// A sink in memory that grows as it is written to, and takes at most so many bytes. A write fails where there is no memory or
+/// How many bytes the output of a job may have. No sink in memory has room for more.
+pub const OUTPUT_ROOM: u32 = 67_108_864;
+
+/// A sink in memory that grows as it is written to, and takes at most `room` bytes. A write fails where there is no memory or
 /// no room for the whole piece.
 #[derive(Drop)]
 pub struct MemorySink {
@@ -16,20 +19,20 @@ pub struct MemorySink {
 }
 
 impl Model for MemorySink {
-    ghost use Rattle.os_serve_jobs.specs.MemorySinkStates.{MemorySinkState};
+    ghost use Rattle.os_serve_jobs.specs.MemorySinkStates.{MemorySinkState, output_room};
     ghost use Rattle.std.specs.Prelude.{◌≤◌, vec_len};
 
     ghost Value = { MemorySinkState };
 
     ghost view = { λ s. record { taken = s.bytes.items; room = s.room; faults = s.faults } };
 
-    ghost invariant = { λ s. (vec_len s.bytes ≤ s.room) × (s.room ≤ 67108864) };
+    ghost invariant = { λ s. (vec_len s.bytes ≤ s.room) × (s.room ≤ output_room) };
 }
 
 impl MemorySink {
-    /// An empty one, with room for at most 67,108,864 bytes. It takes no memory.
+    /// An empty one, with room for `room` bytes, at most `OUTPUT_ROOM`. It takes no memory.
     pub fn new(alloc: Global, room: u32) -> MemorySink
-        requires { room ≤ 67108864 }
+        requires { room ≤ output_room }
         ensures { result ≡ fresh_kept room }
     {
         MemorySink {
@@ -42,7 +45,7 @@ impl MemorySink {
     /// The bytes taken so far.
     pub fn bytes(&self) -> &[u8]
         ensures bytes { result.now ≡ self.now.taken }
-        ensures within { length result.now ≤ 67108864 }
+        ensures within { length result.now ≤ output_room }
     {
         self.bytes.as_slice()
     }

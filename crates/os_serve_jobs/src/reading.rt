@@ -1,7 +1,8 @@
 ghost use Rattle.std.specs.Prelude.{◌≡◌, ◌<◌, ◌≤◌, ◌+◌, ◌⊎◌, ◌∷◌, ◌++◌, [], All, IsTrue, OnErr, OnOk, false, max, vec_len};
 ghost use Rattle.std.specs.List.{flat_map};
 ghost use Rattle.os_serve_jobs.specs.Cutting.{HasMore, TookPiece, left_to_do};
-ghost use Rattle.os_serve_jobs.specs.Lines.{IsLine, ended, jobs_limit, last_line};
+ghost use Rattle.os_io.specs.Lines.{ended_line};
+ghost use Rattle.os_serve_jobs.specs.Lines.{IsLine, jobs_limit, last_line};
 ghost use Rattle.os_serve_jobs.specs.Reading.{CutsOn, HasRead, IsDone, IsFresh, IsReading, ReadsOn, uncut, waiting_lines};
 
 use crate::cutting::{cut, end_line};
@@ -58,7 +59,7 @@ impl Reading {
         }
     }
 
-    /// Reads on until so many lines wait, or none can come any more. Where `Memory` comes, nothing is lost of what was read.
+    /// Reads on until `most` lines wait, or none can come any more. Where `Memory` comes, nothing is lost of what was read.
     pub fn read_on<J: Files>(
         &mut self,
         alloc: Global,
@@ -80,7 +81,7 @@ impl Reading {
         Ok(())
     }
 
-    /// Cuts lines off what was read already, until so many wait or all of it is cut. It reads nothing. Where `Memory` comes, nothing is
+    /// Cuts lines off what was read already, until `most` wait or all of it is cut. It reads nothing. Where `Memory` comes, nothing is
     /// lost of what was read.
     pub fn cut_on(
         &mut self,
@@ -136,8 +137,8 @@ impl Reading {
         requires is_reading { IsReading self.old }
         requires some { self.old.next < self.old.filled }
         ensures is_reading { IsReading self.new }
-        ensures same { flat_map ended (waiting_lines waiting.new.items) ++ uncut self.new
-            ≡ flat_map ended (waiting_lines waiting.old.items) ++ uncut self.old }
+        ensures same { flat_map ended_line (waiting_lines waiting.new.items) ++ uncut self.new
+            ≡ flat_map ended_line (waiting_lines waiting.old.items) ++ uncut self.old }
         ensures each { All IsLine (waiting_lines waiting.old.items) → All IsLine (waiting_lines waiting.new.items) }
         ensures total { self.new.total ≡ self.old.total }
         ensures source { self.new.source ≡ self.old.source }

@@ -34,7 +34,7 @@ fn rest_of(bytes: &[u8], next: usize) -> &[u8]
     &bytes[next..]
 }
 
-/// The first bytes, so many.
+/// The first `count` bytes.
 fn front_of(bytes: &[u8], count: usize) -> &[u8]
     requires { count ≤ length bytes.now }
     ensures { result.now ≡ take count bytes.now }

@@ -7,8 +7,7 @@ use crate::completion::completion;
 use crate::judged::Judged;
 use crate::judging::tell_fault;
 use crate::telling::{Named, tell_no_memory};
-use front_end::{TEXT_LIMIT, TextError, TextFault, read_program};
-use os_ast::NO_PROGRAM;
+use front_end::{TEXT_LIMIT, TextError, TextRefusal, read_program};
 use os_io::Memory;
 use std::alloc::Global;
 use std::io;
@@ -56,15 +55,10 @@ pub(crate) fn complete_text(
 {
     let Named { name, text } = named;
     match read_program(alloc, text) {
-        Err(
-            TextError::Refused {
-                code: NO_PROGRAM,
-                ..
-            },
-        ) => write_completion(out, told, alloc, name, text),
-        Err(TextError::Refused { code, line }) => match TextFault::of_code(code) {
-            Some(fault) => tell_fault(told, alloc, named, fault, line),
-            None => write_text(out, text),
+        Err(TextError::Refused { refusal, line }) => match refusal {
+            TextRefusal::Fault(fault) => tell_fault(told, alloc, named, fault, line),
+            TextRefusal::NoProgram => write_completion(out, told, alloc, name, text),
+            TextRefusal::Violated(_) => write_text(out, text),
         },
         Err(TextError::Memory) => tell_no_memory(told, name),
         Ok(_) => write_text(out, text),

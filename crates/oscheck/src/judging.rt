@@ -10,8 +10,8 @@ use crate::manner::{Extent, Manner};
 use crate::syntax_error::SyntaxError;
 use crate::telling::{Named, show, tell_more, tell_no_memory, tell_place};
 use crate::warning::tell_accepted;
-use front_end::{TEXT_LIMIT, TextError, TextFault, read_program};
-use os_ast::{NO_PROGRAM, Rule, Violation};
+use front_end::{TEXT_LIMIT, TextError, TextFault, TextRefusal, read_program};
+use os_ast::{Rule, Violation};
 use os_io::Memory;
 use os_lexer::{Kind, Token, lex};
 use oscheck_places::{Spot, fault_spot};
@@ -57,7 +57,7 @@ fn tell_stop(out: &mut impl io::Write, alloc: Global, named: Named<'_>) -> io::R
 {
     match SyntaxError::find(alloc, named.text) {
         Ok(stop) => {
-            tell_place(out, named, stop.spot(), NO_PROGRAM)?;
+            tell_place(out, named, stop.spot(), TextRefusal::NoProgram.code())?;
             stop.write(out)?;
             show(out, alloc, named, stop.spot())
         }
@@ -197,21 +197,21 @@ fn tell_line(
     show(out, alloc, named, spot)
 }
 
-/// Tells what is wrong with a text, by its code and its line.
+/// Tells what is wrong with a text, by what it is and its line.
 fn tell_error(
     out: &mut impl io::Write,
     alloc: Global,
     named: Named<'_>,
-    code: u8,
+    refusal: TextRefusal,
     line: u32,
     extent: Extent,
 ) -> io::Result<Judged>
     requires { length named.text.now ≤ text_limit }
 {
-    match TextFault::of_code(code) {
-        Some(fault) => tell_fault(out, alloc, named, fault, line),
-        None if code == NO_PROGRAM => tell_stop(out, alloc, named),
-        None => tell_violations(out, alloc, named, extent),
+    match refusal {
+        TextRefusal::Fault(fault) => tell_fault(out, alloc, named, fault, line),
+        TextRefusal::NoProgram => tell_stop(out, alloc, named),
+        TextRefusal::Violated(_) => tell_violations(out, alloc, named, extent),
     }
 }
 
@@ -227,11 +227,11 @@ pub(crate) fn judge_text(
     let name = named.name;
     match read_program(alloc, named.text) {
         Ok(checked) => tell_accepted(out, alloc, named, &checked, manner),
-        Err(TextError::Refused { code, line }) => tell_error(
+        Err(TextError::Refused { refusal, line }) => tell_error(
             out,
             alloc,
             named,
-            code,
+            refusal,
             line,
             manner.extent,
         ),

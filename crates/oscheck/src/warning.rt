@@ -288,7 +288,7 @@ pub(crate) fn tell_accepted(
     }
 }
 
-/// Tells that a program with so many warnings is accepted, or that it isn't.
+/// Tells that a program with `count` warnings is accepted, or that it isn't.
 fn tell_verdict(
     out: &mut impl io::Write,
     name: &str,

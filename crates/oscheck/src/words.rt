@@ -19,7 +19,7 @@ enum Asked {
     NoMore,
 }
 
-/// Asks for a word of at most so many bytes.
+/// Asks for a word of at most `size` bytes.
 fn ask(env: &impl Env, alloc: Global, number: usize, size: usize) -> Result<Asked, Memory> {
     let mut bytes = vec![in alloc; 0u8; size]?;
     match env.arg(number, &mut bytes) {

@@ -82,7 +82,7 @@ fn window(line: &[u8], start: usize) -> (usize, usize)
     (from, to)
 }
 
-/// The bytes from one up to another, or none where there aren't so many.
+/// The bytes from place `from` up to `to`, or none where not all of these are there.
 fn part(bytes: &[u8], from: usize, to: usize) -> &[u8] {
     match bytes.get(from..to) {
         Some(part) => part,

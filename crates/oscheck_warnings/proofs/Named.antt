@@ -6,17 +6,17 @@ use Rattle.os_lexer.specs.declared.token.Kind.{Kind}
 use Rattle.os_lexer.specs.declared.token.Kind.TheVariants as kind
 use Rattle.os_lexer.specs.declared.token.Token.{Token}
 use Rattle.oscheck_warnings.specs.Open.{open_in}
-use Rattle.oscheck_warnings.specs.Streams.{part_at, part_past, BeginsItem, IsInClauses, AreInClauses}
+use Rattle.oscheck_warnings.specs.Streams.{clause_place_at, clause_place_past, BeginsItem, IsInClauses, AreInClauses}
 use Rattle.oscheck_warnings.specs.Warnings.{kind_at}
 use Rattle.oscheck_warnings.specs.declared.clause_place.ClausePlace.{ClausePlace}
-use Rattle.oscheck_warnings.specs.declared.clause_place.ClausePlace.TheVariants as part
+use Rattle.oscheck_warnings.specs.declared.clause_place.ClausePlace.TheVariants as places
 
--- the names of the items that begin at the first places are marked, and the part behind these places is known
+-- the names of the items that begin at the first places are marked, and the clause place behind these places is known
 pub record AreMarked (tokens : List Token) (word : ℕ) (marks : List Bool) (here : ClausePlace) (count : ℕ) : Type 0 where
   pub counted : length marks ≡ 12 + length tokens
   pub sound : (name : ℕ) → get_or marks name false ≡ true → IsInClauses tokens word name
   pub complete : (name place : ℕ) → name < 12 + length tokens → place < count → BeginsItem tokens word place name → get_or marks name false ≡ true
-  pub stands : here ≡ part_at tokens count
+  pub stands : here ≡ clause_place_at tokens count
   pub few : open_in here ≤ count
 
 all_unmarked : (count place : ℕ) → get_or (replicate count false) place false ≡ false
@@ -25,7 +25,7 @@ all_unmarked (suc count) zero = refl
 all_unmarked (suc count) (suc place) = all_unmarked count place
 
 -- none were gone over
-pub named-none : (tokens : List Token) (word : ℕ) (marks : List Bool) → marks ≡ replicate (12 + length tokens) false → AreMarked tokens word marks part.Outside 0
+pub named-none : (tokens : List Token) (word : ℕ) (marks : List Bool) → marks ≡ replicate (12 + length tokens) false → AreMarked tokens word marks places.Outside 0
 named-none tokens word marks is = record {
   counted = ap length is ∙ length-replicate (12 + length tokens) false;
   sound = λ name m. let none = all_unmarked (12 + length tokens) name in let these = ap (λ (l : List Bool). get_or l name false) is in cc;
@@ -34,17 +34,17 @@ named-none tokens word marks is = record {
   few = omega arith;
 }
 
--- the part behind the next token
-stands_next : (tokens : List Token) (here behind : ClausePlace) (count : ℕ) → here ≡ part_at tokens count → behind ≡ part_past here (kind_at tokens count) →
-    behind ≡ part_at tokens (count + 1)
+-- the clause place behind the next token
+stands_next : (tokens : List Token) (here behind : ClausePlace) (count : ℕ) → here ≡ clause_place_at tokens count → behind ≡ clause_place_past here (kind_at tokens count) →
+    behind ≡ clause_place_at tokens (count + 1)
 stands_next tokens here behind count h next =
     let step : count + 1 ≡ suc count = omega arith in
-    next ∙ ap (λ (p : ClausePlace). part_past p (kind_at tokens count)) h ∙ sym (ap (part_at tokens) step)
+    next ∙ ap (λ (p : ClausePlace). clause_place_past p (kind_at tokens count)) h ∙ sym (ap (clause_place_at tokens) step)
 
 -- an item begins, with a name
 pub named-set : (tokens : List Token) (word : ℕ) (marks : List Bool) (here behind : ClausePlace) (count name : ℕ) → AreMarked tokens word marks here count →
-    here ≡ part.Start word → kind_at tokens count ≡ Some (kind.Name name) → name < length marks →
-    behind ≡ part_past here (kind_at tokens count) → open_in behind ≤ open_in here + 1 → AreMarked tokens word (set marks name true) behind (count + 1)
+    here ≡ places.Start word → kind_at tokens count ≡ Some (kind.Name name) → name < length marks →
+    behind ≡ clause_place_past here (kind_at tokens count) → open_in behind ≤ open_in here + 1 → AreMarked tokens word (set marks name true) behind (count + 1)
 named-set tokens word marks here behind count first h start is low next few = record {
   counted = length-set marks first true ∙ h.counted;
   sound = λ name m. sound_of name m (cases_eq name first);
@@ -73,7 +73,7 @@ named-set tokens word marks here behind count first h start is low next few = re
 -- a name that is behind the marks
 pub named-past : (tokens : List Token) (word : ℕ) (marks : List Bool) (here behind : ClausePlace) (count name : ℕ) → AreMarked tokens word marks here count →
     kind_at tokens count ≡ Some (kind.Name name) → (name < length marks → ⊥) →
-    behind ≡ part_past here (kind_at tokens count) → open_in behind ≤ open_in here + 1 → AreMarked tokens word marks behind (count + 1)
+    behind ≡ clause_place_past here (kind_at tokens count) → open_in behind ≤ open_in here + 1 → AreMarked tokens word marks behind (count + 1)
 named-past tokens word marks here behind count first h is high next few = record {
   counted = h.counted;
   sound = h.sound;
@@ -93,8 +93,8 @@ named-past tokens word marks here behind count first h is high next few = record
 
 -- no item begins
 pub named-same : (tokens : List Token) (word : ℕ) (marks : List Bool) (here behind : ClausePlace) (count : ℕ) → AreMarked tokens word marks here count →
-    ((name : ℕ) → here ≡ part.Start word → kind_at tokens count ≡ Some (kind.Name name) → ⊥) →
-    behind ≡ part_past here (kind_at tokens count) → open_in behind ≤ open_in here + 1 → AreMarked tokens word marks behind (count + 1)
+    ((name : ℕ) → here ≡ places.Start word → kind_at tokens count ≡ Some (kind.Name name) → ⊥) →
+    behind ≡ clause_place_past here (kind_at tokens count) → open_in behind ≤ open_in here + 1 → AreMarked tokens word marks behind (count + 1)
 named-same tokens word marks here behind count h none next few = record {
   counted = h.counted;
   sound = h.sound;
@@ -106,7 +106,7 @@ named-same tokens word marks here behind count h none next few = record {
     complete_of : (name place : ℕ) → name < 12 + length tokens → place < count + 1 → BeginsItem tokens word place name →
         (place ≡ count) ⊎ (place ≢ count) → get_or marks name false ≡ true
     complete_of name place l before e (inl o) =
-        absurd (none name (h.stands ∙ ap (part_at tokens) (sym o) ∙ e.0) (ap (kind_at tokens) (sym o) ∙ e.1))
+        absurd (none name (h.stands ∙ ap (clause_place_at tokens) (sym o) ∙ e.0) (ap (kind_at tokens) (sym o) ∙ e.1))
     complete_of name place l before e (inr o) = h.complete name place l (omega (arith, before, o)) e
 
 -- a token that is there stands among the tokens

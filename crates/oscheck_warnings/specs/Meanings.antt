@@ -15,10 +15,10 @@ meaning_behind before (n ∷ ns) place = meaning_behind (if n.place == place the
 abbrev pub meaning_at : List Resolved → ℕ → Option What
 meaning_at names place = meaning_behind None names place
 
--- the same as it is kept
-abbrev pub meaning : Meanings → ℕ → Option What
-meaning m place = get nat_cmp m.by_place place
+-- what a place means by the map
+abbrev pub what_at : Meanings → ℕ → Option What
+what_at m place = get nat_cmp m.by_place place
 
 -- The map has exactly what these names mean.
 abbrev pub AreMeanings : List Resolved → Meanings → Type 0
-AreMeanings names m = (place : ℕ) → meaning m place ≡ meaning_at names place
+AreMeanings names m = (place : ℕ) → what_at m place ≡ meaning_at names place

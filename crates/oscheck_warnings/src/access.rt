@@ -28,7 +28,7 @@ impl Site {
     ghost use Rattle.std.specs.Prelude.{◌≡◌};
     ghost use Rattle.oscheck_warnings.specs.Accesses.{in_task, in_loop, outside};
 
-    /// In no task.
+    /// The site outside of tasks.
     pub(crate) fn outside() -> Site
         ensures { result ≡ outside }
     {
@@ -38,7 +38,7 @@ impl Site {
         }
     }
 
-    /// In the body of a task.
+    /// The site in the body of a task, in no loop of it.
     pub(crate) fn in_task(place: u32) -> Site
         ensures { result ≡ in_task place }
     {
@@ -48,7 +48,7 @@ impl Site {
         }
     }
 
-    /// In a loop.
+    /// The same site in a loop.
     pub(crate) fn in_loop(self) -> Site
         ensures { result ≡ in_loop self }
     {

@@ -4,7 +4,7 @@ ghost use Rattle.std.specs.Prelude.{◌≡◌, length, IfOk};
 ghost use Rattle.os_ast.specs.Views.{program_tree};
 ghost use Rattle.oscheck_warnings.specs.Bursts.{window_of, AreWrongBursts};
 ghost use Rattle.oscheck_warnings.specs.Extents.{extents};
-ghost use Rattle.oscheck_warnings.specs.Meanings.{meaning, meaning_at};
+ghost use Rattle.oscheck_warnings.specs.Meanings.{what_at, meaning_at};
 ghost use Rattle.oscheck_warnings.specs.Sizes.{sized, size_slot, burst_slot, is_other, differs_from, differs, is_wrong, AreSizes};
 
 use crate::extent::{Amount, Bracket, Extent};
@@ -75,7 +75,7 @@ fn window_of(what: Option<What>) -> Option<u32>
 
 /// The window whose size a constant is.
 fn size_slot(meanings: &Meanings, extent: Extent) -> Option<u32>
-    ensures { result ≡ size_slot (meaning meanings.now) extent }
+    ensures { result ≡ size_slot (what_at meanings.now) extent }
 {
     match extent.bracket {
         Bracket::Size => window_of(meanings.at(extent.place)),
@@ -85,7 +85,7 @@ fn size_slot(meanings: &Meanings, extent: Extent) -> Option<u32>
 
 /// The window whose burst a constant is.
 fn burst_slot(meanings: &Meanings, extent: Extent) -> Option<u32>
-    ensures { result ≡ burst_slot (meaning meanings.now) extent }
+    ensures { result ≡ burst_slot (what_at meanings.now) extent }
 {
     match extent.bracket {
         Bracket::Size => None,
@@ -122,7 +122,7 @@ fn differs(size: Option<Amount>, burst: Amount) -> bool
 
 /// Whether a constant is the burst of a window with another size.
 fn is_wrong(sizes: &Sizes, meanings: &Meanings, extent: Extent) -> bool
-    ensures { result ≡ is_wrong (sized sizes.now) (meaning meanings.now) extent }
+    ensures { result ≡ is_wrong (sized sizes.now) (what_at meanings.now) extent }
 {
     match burst_slot(meanings, extent) {
         Some(slot) => differs(sizes.of(slot), extent.amount),
@@ -132,7 +132,7 @@ fn is_wrong(sizes: &Sizes, meanings: &Meanings, extent: Extent) -> bool
 
 /// The sizes of windows that are constants.
 fn all_sizes(alloc: Global, meanings: &Meanings, list: &[Extent]) -> Result<Sizes, Memory>
-    ensures { IfOk result (λ sizes. AreSizes list.now (meaning meanings.now) sizes) }
+    ensures { IfOk result (λ sizes. AreSizes list.now (what_at meanings.now) sizes) }
 {
     let mut sizes = Sizes::new(alloc);
     for extent in list {
@@ -149,8 +149,8 @@ fn marked(
     meanings: &Meanings,
     list: &[Extent],
 ) -> Result<Places, Memory>
-    requires { AreSizes list.now (meaning meanings.now) sizes.now }
-    ensures { IfOk result (λ places. AreWrongBursts list.now (meaning meanings.now) places) }
+    requires { AreSizes list.now (what_at meanings.now) sizes.now }
+    ensures { IfOk result (λ places. AreWrongBursts list.now (what_at meanings.now) places) }
 {
     let mut places = Places::new(alloc);
     for index in 0..list.len() {

@@ -3,7 +3,7 @@
 ghost use Rattle.std.specs.Prelude.{◌≡◌, option_map};
 ghost use Rattle.os_ast.specs.Views.{expr_tree, target_tree, index_tree};
 ghost use Rattle.oscheck_warnings.specs.Extents.{amount_of, named_amount, below, negated_amount, target_amount, amount_in, signed_amount, index_amount};
-ghost use Rattle.oscheck_warnings.specs.Meanings.{meaning};
+ghost use Rattle.oscheck_warnings.specs.Meanings.{what_at};
 
 use crate::extent::Amount;
 use crate::meanings::Meanings;
@@ -59,7 +59,7 @@ fn negated_amount(expr: &Expr) -> Option<Amount>
 
 /// The value of a name, where it is a constant.
 fn target_amount(meanings: &Meanings, target: &Target) -> Option<Amount>
-    ensures { result ≡ target_amount (meaning meanings.now) (target_tree target.now) }
+    ensures { result ≡ target_amount (what_at meanings.now) (target_tree target.now) }
 {
     match target.index {
         None => named_amount(meanings.at(target.name.mark.place)),
@@ -70,7 +70,7 @@ fn target_amount(meanings: &Meanings, target: &Target) -> Option<Amount>
 /// The value of an expression behind a sign.
 #[cycle(amounts)]
 fn signed_amount(meanings: &Meanings, sign: Unary, operand: &Expr) -> Option<Amount>
-    ensures { result ≡ signed_amount sign (amount_in (meaning meanings.now) (expr_tree operand.now)) (expr_tree operand.now) }
+    ensures { result ≡ signed_amount sign (amount_in (what_at meanings.now) (expr_tree operand.now)) (expr_tree operand.now) }
 {
     match sign {
         Unary::Minus => negated_amount(operand),
@@ -83,7 +83,7 @@ fn signed_amount(meanings: &Meanings, sign: Unary, operand: &Expr) -> Option<Amo
 #[cycle(amounts)]
 #[tactic(auto, using(crate::proofs::Joined::joining))]
 fn amount_in(meanings: &Meanings, expr: &Expr) -> Option<Amount>
-    ensures { result ≡ amount_in (meaning meanings.now) (expr_tree expr.now) }
+    ensures { result ≡ amount_in (what_at meanings.now) (expr_tree expr.now) }
 {
     match expr {
         Expr::Number(number) | Expr::Wide(number) => Some(Amount::Number(*number)),
@@ -96,7 +96,7 @@ fn amount_in(meanings: &Meanings, expr: &Expr) -> Option<Amount>
 
 /// The value between brackets, where there are some.
 pub(crate) fn index_amount(meanings: &Meanings, index: &Option<Index>) -> Option<Amount>
-    ensures { result ≡ index_amount (meaning meanings.now) (option_map index_tree index.now) }
+    ensures { result ≡ index_amount (what_at meanings.now) (option_map index_tree index.now) }
 {
     match index {
         None => None,

@@ -9,7 +9,7 @@ use crate::access::{Access, Effect, Site};
 use os_ast::{Change, Declarator, Expr, Link, Start, Target};
 use os_io::{List, Memory};
 
-/// An expression.
+/// Adds the accesses of an expression.
 #[cycle(exprs)]
 #[tactic(auto, using(crate::proofs::Joined::joining))]
 pub(crate) fn expr(list: &mut List<Access>, site: Site, expr: &Expr) -> Result<(), Memory>
@@ -89,7 +89,7 @@ pub(crate) fn value(list: &mut List<Access>, site: Site, value: &Option<Expr>) -
     }
 }
 
-/// A change.
+/// Adds the accesses of a change: those of its value, and behind them that of its target.
 #[tactic(auto, using(crate::proofs::Joined::joining))]
 pub(crate) fn change(list: &mut List<Access>, site: Site, change: &Change) -> Result<(), Memory>
     ensures { OnOk result (list.new ≡ list.old ++ change_accesses site (change_tree change.now)) }

@@ -5,7 +5,7 @@ ghost use Rattle.os_ast.specs.Views.{declarator_tree, clause_tree, clause_kind_t
 ghost use Rattle.os_ast.specs.Views.{stmt_tree, stmts_tree, item_tree, program_tree};
 ghost use Rattle.oscheck_warnings.specs.Extents.{extent_of, declarators_extents, join_extents, items_extents, kind_extents, clauses_extents};
 ghost use Rattle.oscheck_warnings.specs.Extents.{stmt_extents, stmts_extents, item_extents, extents};
-ghost use Rattle.oscheck_warnings.specs.Meanings.{meaning};
+ghost use Rattle.oscheck_warnings.specs.Meanings.{what_at};
 ghost use Rattle.oscheck_warnings.specs.Otherwise.{other_extents};
 
 use crate::constants::index_amount;
@@ -41,7 +41,7 @@ fn declarators(
     meanings: &Meanings,
     declarators: &List<Declarator>,
 ) -> Result<(), Memory>
-    ensures { OnOk result (list.new ≡ list.old ++ declarators_extents (meaning meanings.now) (map declarator_tree declarators.now)) }
+    ensures { OnOk result (list.new ≡ list.old ++ declarators_extents (what_at meanings.now) (map declarator_tree declarators.now)) }
 {
     for declarator in declarators.as_slice() {
         let size = index_amount(meanings, &declarator.size);
@@ -52,7 +52,7 @@ fn declarators(
 
 /// The burst behind an arrow, where something stands there.
 fn join(list: &mut List<Extent>, meanings: &Meanings, join: &Option<Join>) -> Result<(), Memory>
-    ensures { OnOk result (list.new ≡ list.old ++ join_extents (meaning meanings.now) (option_map join_tree join.now)) }
+    ensures { OnOk result (list.new ≡ list.old ++ join_extents (what_at meanings.now) (option_map join_tree join.now)) }
 {
     match join {
         None => Ok(()),
@@ -70,7 +70,7 @@ fn items(
     meanings: &Meanings,
     items: &List<ClauseItem>,
 ) -> Result<(), Memory>
-    ensures { OnOk result (list.new ≡ list.old ++ items_extents (meaning meanings.now) (map clause_item_tree items.now)) }
+    ensures { OnOk result (list.new ≡ list.old ++ items_extents (what_at meanings.now) (map clause_item_tree items.now)) }
 {
     for item in items.as_slice() {
         join(list, meanings, &item.window)?;
@@ -80,7 +80,7 @@ fn items(
 
 /// The bursts of what a clause lists.
 fn kind(list: &mut List<Extent>, meanings: &Meanings, kind: &ClauseKind) -> Result<(), Memory>
-    ensures { OnOk result (list.new ≡ list.old ++ kind_extents (meaning meanings.now) (clause_kind_tree kind.now)) }
+    ensures { OnOk result (list.new ≡ list.old ++ kind_extents (what_at meanings.now) (clause_kind_tree kind.now)) }
 {
     match kind {
         ClauseKind::Output(listed) => items(list, meanings, listed),
@@ -95,7 +95,7 @@ fn clauses(
     meanings: &Meanings,
     clauses: &List<Clause>,
 ) -> Result<(), Memory>
-    ensures { OnOk result (list.new ≡ list.old ++ clauses_extents (meaning meanings.now) (map clause_tree clauses.now)) }
+    ensures { OnOk result (list.new ≡ list.old ++ clauses_extents (what_at meanings.now) (map clause_tree clauses.now)) }
 {
     for clause in clauses.as_slice() {
         kind(list, meanings, &clause.kind)?;
@@ -107,7 +107,7 @@ fn clauses(
 #[cycle(extents)]
 #[tactic(auto, using(crate::proofs::Joined::joining))]
 fn stmt(list: &mut List<Extent>, meanings: &Meanings, stmt: &Stmt) -> Result<(), Memory>
-    ensures { OnOk result (list.new ≡ list.old ++ stmt_extents (meaning meanings.now) (stmt_tree stmt.now)) }
+    ensures { OnOk result (list.new ≡ list.old ++ stmt_extents (what_at meanings.now) (stmt_tree stmt.now)) }
 {
     match stmt {
         Stmt::Empty
@@ -134,7 +134,7 @@ fn stmt(list: &mut List<Extent>, meanings: &Meanings, stmt: &Stmt) -> Result<(),
 #[cycle(extents)]
 #[tactic(auto, using(crate::proofs::Joined::joining))]
 fn stmts(list: &mut List<Extent>, meanings: &Meanings, stmts: &List<Stmt>) -> Result<(), Memory>
-    ensures { OnOk result (list.new ≡ list.old ++ stmts_extents (meaning meanings.now) (stmts_tree stmts.now)) }
+    ensures { OnOk result (list.new ≡ list.old ++ stmts_extents (what_at meanings.now) (stmts_tree stmts.now)) }
 {
     for next in stmts.as_slice() {
         stmt(list, meanings, next)?;
@@ -150,7 +150,7 @@ fn otherwise(
     meanings: &Meanings,
     second: &Option<Box<Stmt>>,
 ) -> Result<(), Memory>
-    ensures { OnOk result (list.new ≡ list.old ++ other_extents (meaning meanings.now) second.now) }
+    ensures { OnOk result (list.new ≡ list.old ++ other_extents (what_at meanings.now) second.now) }
 {
     match second {
         None => Ok(()),
@@ -160,7 +160,7 @@ fn otherwise(
 
 /// A constant or a function.
 fn item(list: &mut List<Extent>, meanings: &Meanings, item: &Item) -> Result<(), Memory>
-    ensures { OnOk result (list.new ≡ list.old ++ item_extents (meaning meanings.now) (item_tree item.now)) }
+    ensures { OnOk result (list.new ≡ list.old ++ item_extents (what_at meanings.now) (item_tree item.now)) }
 {
     match item {
         Item::Constant(_) => Ok(()),
@@ -175,7 +175,7 @@ pub(crate) fn extents(
     meanings: &Meanings,
     program: &Program,
 ) -> Result<List<Extent>, Memory>
-    ensures { IfOk result (λ list. list ≡ extents (meaning meanings.now) (program_tree program.now)) }
+    ensures { IfOk result (λ list. list ≡ extents (what_at meanings.now) (program_tree program.now)) }
 {
     let mut list = List::new(alloc);
     for next in program.items.as_slice() {

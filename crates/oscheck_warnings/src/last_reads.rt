@@ -2,7 +2,7 @@
 
 ghost use Rattle.std.specs.Prelude.{◌≡◌, length, IfOk};
 ghost use Rattle.oscheck_warnings.specs.LastReads.{cell_of, read_by, changed_by, AreLastReads};
-ghost use Rattle.oscheck_warnings.specs.Meanings.{meaning};
+ghost use Rattle.oscheck_warnings.specs.Meanings.{what_at};
 
 use crate::access::{Access, Effect};
 use crate::meanings::Meanings;
@@ -39,7 +39,7 @@ impl LastReads {
     ghost use Rattle.std.specs.Prelude.{◌≡◌, ℕ, if◌then◌else◌, Some, None, OnOk};
     ghost use Rattle.oscheck_warnings.specs.LastReads.{last_read, is_cell};
 
-    /// None is read.
+    /// The last reads before any access.
     fn new(alloc: Global) -> LastReads
         ensures { (task slot : ℕ) → last_read result task slot ≡ None }
     {
@@ -88,7 +88,7 @@ fn cell_of(task: u32, what: Option<What>) -> Option<Cell>
 
 /// The scalar that an access reads.
 fn read_by(meanings: &Meanings, access: Access) -> Option<Cell>
-    ensures { result ≡ read_by (meaning meanings.now) access }
+    ensures { result ≡ read_by (what_at meanings.now) access }
 {
     match access.effect {
         Effect::Read => cell_of(access.site.task, meanings.at(access.place)),
@@ -98,7 +98,7 @@ fn read_by(meanings: &Meanings, access: Access) -> Option<Cell>
 
 /// The scalar that an access changes.
 pub(crate) fn changed_by(meanings: &Meanings, access: Access) -> Option<Cell>
-    ensures { result ≡ changed_by (meaning meanings.now) access }
+    ensures { result ≡ changed_by (what_at meanings.now) access }
 {
     match access.effect {
         Effect::Read => None,
@@ -113,7 +113,7 @@ pub(crate) fn last_reads(
     meanings: &Meanings,
     list: &[Access],
 ) -> Result<LastReads, Memory>
-    ensures { IfOk result (λ last. AreLastReads list.now (meaning meanings.now) last (length list.now)) }
+    ensures { IfOk result (λ last. AreLastReads list.now (what_at meanings.now) last (length list.now)) }
 {
     let mut last = LastReads::new(alloc);
     for index in 0..list.len() {

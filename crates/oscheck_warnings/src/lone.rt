@@ -1,25 +1,24 @@
 //! Names that stand once.
 
 ghost use Rattle.std.specs.Prelude.{◌≡◌, ◌≢◌, ◌+◌, ◌<◌, ◌↔◌, ℕ, IsTrue, Some, length, IfOk, IfSome, IfNone};
+ghost use Rattle.os_lexer.specs.Names.{first_own_id};
 ghost use Rattle.os_lexer.specs.declared.token.Kind.TheVariants as kinds;
 ghost use Rattle.oscheck_warnings.specs.Warnings.{kind_at, IsLoneName, AreRepeated};
 
 use os_io::Memory;
+use os_lexer::names::FIRST_OWN_ID;
 use os_lexer::{Kind, Token};
 use std::alloc::Global;
-
-/// The number of the first name that isn't fixed, where it is the first token.
-const FIRST: u32 = 12;
 
 /// The place of the first token that is spelled as the name at a place, where that is another one.
 fn first_elsewhere(tokens: &[Token], place: usize) -> Option<usize>
     requires { place < length tokens.now }
-    ensures some { IfSome result (λ first. (first ≢ place) × (kind_at tokens.now place ≡ Some (kinds.Name (12 + first)))) }
-    ensures none { IfNone result ((first : ℕ) → first ≢ place → kind_at tokens.now place ≢ Some (kinds.Name (12 + first))) }
+    ensures some { IfSome result (λ first. (first ≢ place) × (kind_at tokens.now place ≡ Some (kinds.Name (first_own_id + first)))) }
+    ensures none { IfNone result ((first : ℕ) → first ≢ place → kind_at tokens.now place ≢ Some (kinds.Name (first_own_id + first))) }
 {
     match tokens[place].kind {
-        Kind::Name(id) if id >= FIRST && (id - FIRST) as usize != place => {
-            Some((id - FIRST) as usize)
+        Kind::Name(id) if id >= FIRST_OWN_ID && (id - FIRST_OWN_ID) as usize != place => {
+            Some((id - FIRST_OWN_ID) as usize)
         }
         _ => None,
     }
@@ -49,7 +48,9 @@ pub fn is_lone_name(tokens: &[Token], repeated: &[bool], place: usize) -> bool
     ensures { IsTrue result ↔ IsLoneName tokens.now place }
 {
     match tokens[place].kind {
-        Kind::Name(id) => id >= FIRST && (id - FIRST) as usize == place && !repeated[place],
+        Kind::Name(id) => id >= FIRST_OWN_ID
+            && (id - FIRST_OWN_ID) as usize == place
+            && !repeated[place],
         _ => false,
     }
 }

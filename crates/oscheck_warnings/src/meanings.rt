@@ -11,9 +11,9 @@ pub(crate) struct Meanings {
 
 impl Meanings {
     ghost use Rattle.std.specs.Prelude.{◌≡◌, ◌==◌, ℕ, if◌then◌else◌, Some, IfOk, OnOk};
-    ghost use Rattle.oscheck_warnings.specs.Meanings.{meaning, AreMeanings};
+    ghost use Rattle.oscheck_warnings.specs.Meanings.{what_at, AreMeanings};
 
-    /// Those of some names, where no other name stands at the place of one.
+    /// The meanings of some names, where no other name stands at the place of one.
     pub(crate) fn of(alloc: Global, names: &[Resolved]) -> Result<Meanings, Memory>
         ensures { IfOk result (AreMeanings names.now) }
     {
@@ -26,9 +26,9 @@ impl Meanings {
         Ok(meanings)
     }
 
-    /// One more name.
+    /// Adds what one more name means.
     fn add(&mut self, name: Resolved) -> Result<(), Memory>
-        ensures { OnOk result ((place : ℕ) → meaning self.new place ≡ (if name.place == place then Some name.what else meaning self.old place)) }
+        ensures { OnOk result ((place : ℕ) → what_at self.new place ≡ (if name.place == place then Some name.what else what_at self.old place)) }
     {
         self.by_place.insert(name.place, name.what)?;
         Ok(())
@@ -36,7 +36,7 @@ impl Meanings {
 
     /// What the name at a place means.
     pub(crate) fn at(&self, place: u32) -> Option<What>
-        ensures { result ≡ meaning self.now place }
+        ensures { result ≡ what_at self.now place }
     {
         self.by_place.get(&place).copied()
     }

@@ -3,13 +3,13 @@
 ghost use Rattle.std.specs.Prelude.{◌≡◌, ◌+◌, ◌≤◌};
 ghost use Rattle.os_lexer.specs.Limits.{text_limit};
 ghost use Rattle.oscheck_warnings.specs.Open.{open_in};
-ghost use Rattle.oscheck_warnings.specs.Streams.{past_in_line, past_mark, past_in_item, past_in_part, part_past};
+ghost use Rattle.oscheck_warnings.specs.Streams.{past_in_line, past_mark, past_in_item, past_in_place, clause_place_past};
 
 use crate::clause_place::ClausePlace;
 use os_lexer::names::OMP;
 use os_lexer::{Kind, Punct};
 
-/// Behind a token in a pragma's line, outside brackets.
+/// The place behind a token in a pragma's line, outside brackets.
 fn past_in_line(word: u32, kind: Kind) -> ClausePlace
     ensures exact { result ≡ past_in_line word kind }
     ensures few { open_in result ≤ 0 }
@@ -21,7 +21,7 @@ fn past_in_line(word: u32, kind: Kind) -> ClausePlace
     }
 }
 
-/// Behind a mark in an item.
+/// The place behind a mark in an item.
 fn past_mark(word: u32, deep: usize, mark: Punct) -> ClausePlace
     requires { deep ≤ text_limit }
     ensures exact { result ≡ past_mark word deep mark }
@@ -36,7 +36,7 @@ fn past_mark(word: u32, deep: usize, mark: Punct) -> ClausePlace
     }
 }
 
-/// Behind a token in an item.
+/// The place behind a token in an item.
 fn past_in_item(word: u32, deep: usize, kind: Kind) -> ClausePlace
     requires { deep ≤ text_limit }
     ensures exact { result ≡ past_in_item word deep kind }
@@ -48,13 +48,13 @@ fn past_in_item(word: u32, deep: usize, kind: Kind) -> ClausePlace
     }
 }
 
-/// Behind a token that neither begins nor ends a pragma's line.
-fn past_in_part(part: ClausePlace, kind: Kind) -> ClausePlace
-    requires { open_in part ≤ text_limit }
-    ensures exact { result ≡ past_in_part part kind }
-    ensures few { open_in result ≤ open_in part + 1 }
+/// The place behind a token that neither begins nor ends a pragma's line.
+fn past_in_place(place: ClausePlace, kind: Kind) -> ClausePlace
+    requires { open_in place ≤ text_limit }
+    ensures exact { result ≡ past_in_place place kind }
+    ensures few { open_in result ≤ open_in place + 1 }
 {
-    match part {
+    match place {
         ClausePlace::Outside => ClausePlace::Outside,
         ClausePlace::Line(word) => past_in_line(word, kind),
         ClausePlace::Start(word) => past_in_item(word, 0, kind),
@@ -62,16 +62,16 @@ fn past_in_part(part: ClausePlace, kind: Kind) -> ClausePlace
     }
 }
 
-/// Behind a token, where there is one.
-pub(crate) fn part_past(part: ClausePlace, kind: Option<Kind>) -> ClausePlace
-    requires { open_in part ≤ text_limit }
-    ensures exact { result ≡ part_past part kind }
-    ensures few { open_in result ≤ open_in part + 1 }
+/// The place behind a token, or the same place where there is none.
+pub(crate) fn clause_place_past(place: ClausePlace, kind: Option<Kind>) -> ClausePlace
+    requires { open_in place ≤ text_limit }
+    ensures exact { result ≡ clause_place_past place kind }
+    ensures few { open_in result ≤ open_in place + 1 }
 {
     match kind {
         Some(Kind::PragmaStart) => ClausePlace::Line(OMP),
         Some(Kind::PragmaEnd) => ClausePlace::Outside,
-        Some(kind) => past_in_part(part, kind),
-        None => part,
+        Some(kind) => past_in_place(place, kind),
+        None => place,
     }
 }

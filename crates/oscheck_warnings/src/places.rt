@@ -2,7 +2,7 @@ use os_io::Memory;
 use std::alloc::Global;
 use std::collections::BTreeSet;
 
-/// Places of names.
+/// A set of places of names.
 #[derive(Drop)]
 pub struct Places {
     places: BTreeSet<u32>,

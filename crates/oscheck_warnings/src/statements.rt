@@ -65,7 +65,7 @@ fn otherwise(list: &mut List<Access>, site: Site, second: &Option<Box<Stmt>>) ->
     }
 }
 
-/// `for`.
+/// Adds the accesses of a `for`: those of its step stand behind those of what it repeats.
 #[cycle(stmts)]
 #[tactic(auto, using(crate::proofs::Joined::joining))]
 fn for_loop(list: &mut List<Access>, site: Site, head: &Head, body: &Stmt) -> Result<(), Memory>

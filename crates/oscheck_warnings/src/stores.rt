@@ -5,7 +5,7 @@ ghost use Rattle.os_ast.specs.Views.{program_tree};
 ghost use Rattle.oscheck_warnings.specs.Accesses.{accesses};
 ghost use Rattle.oscheck_warnings.specs.DeadStores.{AreDeadStores};
 ghost use Rattle.oscheck_warnings.specs.LastReads.{is_dead, is_unread, last_read, AreLastReads};
-ghost use Rattle.oscheck_warnings.specs.Meanings.{meaning, meaning_at};
+ghost use Rattle.oscheck_warnings.specs.Meanings.{what_at, meaning_at};
 
 use crate::access::Access;
 use crate::last_reads::{LastReads, changed_by, last_reads};
@@ -28,7 +28,7 @@ fn is_unread(read: Option<usize>, looped: bool, index: usize) -> bool
 
 /// Whether an access changes a scalar of a task that nothing reads after it.
 fn is_dead(last: &LastReads, meanings: &Meanings, access: Access, index: usize) -> bool
-    ensures { result ≡ is_dead (last_read last.now) (meaning meanings.now) access index }
+    ensures { result ≡ is_dead (last_read last.now) (what_at meanings.now) access index }
 {
     match changed_by(meanings, access) {
         Some(cell) => cell.is_in_task() && is_unread(last.of(cell), access.site.looped, index),
@@ -44,8 +44,8 @@ fn marked(
     meanings: &Meanings,
     list: &[Access],
 ) -> Result<Places, Memory>
-    requires { AreLastReads list.now (meaning meanings.now) last.now (length list.now) }
-    ensures { IfOk result (λ places. AreDeadStores list.now (meaning meanings.now) places) }
+    requires { AreLastReads list.now (what_at meanings.now) last.now (length list.now) }
+    ensures { IfOk result (λ places. AreDeadStores list.now (what_at meanings.now) places) }
 {
     let mut places = Places::new(alloc);
     for index in 0..list.len() {

@@ -3,41 +3,39 @@
 ghost use Rattle.std.specs.Prelude.{◌≡◌, ◌≢◌, ◌+◌, ◌<◌, ◌≤◌, ◌↔◌, ℕ, IsTrue, Some, length, IfOk, IfSome, IfNone};
 ghost use Rattle.os_lexer.specs.Limits.{text_limit};
 ghost use Rattle.os_lexer.specs.declared.token.Kind.TheVariants as kinds;
-ghost use Rattle.oscheck_warnings.specs.Streams.{part_past, AreInClauses, HasAttribute, IsLeftOut};
+ghost use Rattle.oscheck_warnings.specs.Streams.{clause_place_past, AreInClauses, HasAttribute, IsLeftOut};
 ghost use Rattle.oscheck_warnings.specs.Open.{open_in};
 ghost use Rattle.oscheck_warnings.specs.Warnings.{kind_at};
-ghost use Rattle.oscheck_warnings.specs.declared.clause_place.ClausePlace.TheVariants as parts;
+ghost use Rattle.oscheck_warnings.specs.declared.clause_place.ClausePlace.TheVariants as places;
 
 use crate::bare::stands;
 use crate::clause_place::ClausePlace;
 use crate::kinds::kind_at;
-use crate::past::part_past;
+use crate::past::clause_place_past;
 use os_io::Memory;
+use os_lexer::names::FIRST_OWN_ID;
 use os_lexer::{Key, Kind, Punct, Token};
 use std::alloc::Global;
 
-/// How many names have numbers of their own in every program.
-const FIXED: usize = 12;
-
-/// The name with which an item of a clause with a word begins at a place, where it begins there. The part there is handed in.
-fn begun(tokens: &[Token], word: u32, part: ClausePlace, place: usize) -> Option<u32>
+/// The name with which an item of a clause with a word begins at a place, where it begins there. The clause place there is handed in.
+fn begun(tokens: &[Token], word: u32, clause_place: ClausePlace, place: usize) -> Option<u32>
     requires { place < length tokens.now }
-    ensures some { IfSome result (λ name. (part ≡ parts.Start word) × (kind_at tokens.now place ≡ Some (kinds.Name name))) }
-    ensures none { IfNone result ((name : ℕ) → part ≡ parts.Start word → kind_at tokens.now place ≢ Some (kinds.Name name)) }
+    ensures some { IfSome result (λ name. (clause_place ≡ places.Start word) × (kind_at tokens.now place ≡ Some (kinds.Name name))) }
+    ensures none { IfNone result ((name : ℕ) → clause_place ≡ places.Start word → kind_at tokens.now place ≢ Some (kinds.Name name)) }
 {
     match tokens[place].kind {
-        Kind::Name(name) if part == ClausePlace::Start(word) => Some(name),
+        Kind::Name(name) if clause_place == ClausePlace::Start(word) => Some(name),
         _ => None,
     }
 }
 
-/// The part behind the token at a place.
-fn part_behind(tokens: &[Token], part: ClausePlace, place: usize) -> ClausePlace
-    requires { open_in part ≤ text_limit }
-    ensures exact { result ≡ part_past part (kind_at tokens.now place) }
-    ensures few { open_in result ≤ open_in part + 1 }
+/// The clause place behind the token at a place.
+fn clause_place_behind(tokens: &[Token], clause_place: ClausePlace, place: usize) -> ClausePlace
+    requires { open_in clause_place ≤ text_limit }
+    ensures exact { result ≡ clause_place_past clause_place (kind_at tokens.now place) }
+    ensures few { open_in result ≤ open_in clause_place + 1 }
 {
-    part_past(part, kind_at(tokens, place))
+    clause_place_past(clause_place, kind_at(tokens, place))
 }
 
 /// Which names stand for streams of items in the clauses with a word, by the numbers of the names: the streams that tasks read where
@@ -47,16 +45,16 @@ pub fn names_in_clauses(alloc: Global, tokens: &[Token], word: u32) -> Result<Ve
     requires few { length tokens.now ≤ text_limit }
     ensures { IfOk result (λ marks. AreInClauses tokens.now word marks.items) }
 {
-    let mut marks = vec![in alloc; false; FIXED + tokens.len()]?;
-    let mut part = ClausePlace::Outside;
+    let mut marks = vec![in alloc; false; FIRST_OWN_ID as usize + tokens.len()]?;
+    let mut clause_place = ClausePlace::Outside;
     for place in 0..tokens.len() {
-        if let Some(name) = begun(tokens, word, part, place) {
+        if let Some(name) = begun(tokens, word, clause_place, place) {
             let name = name as usize;
             if name < marks.len() {
                 marks[name] = true;
             }
         }
-        part = part_behind(tokens, part, place);
+        clause_place = clause_place_behind(tokens, clause_place, place);
     }
     Ok(marks)
 }

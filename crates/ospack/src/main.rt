@@ -5,7 +5,8 @@
 //! Where not all goes well, one line on standard error says why, and what stands before a slot that is refused was written.
 #![tactic(auto)]
 
-ghost use Rattle.std.specs.Prelude.{◌≤◌, ◌^◌, IsTrue};
+ghost use Rattle.std.specs.Prelude.{◌≤◌, IsTrue};
+ghost use Rattle.ospack_slots.specs.Limits.{slot_limit};
 
 mod input;
 mod request;
@@ -13,25 +14,17 @@ mod status;
 mod telling;
 
 use input::Input;
-use os_io::{Files, HostSink, Sink};
+use os_io::{Files, HostSink, Sink, arguments};
 use ospack_slots::{PackError, pack, unpack};
 use request::{Request, Way, request_of};
 use status::Status;
 use std::alloc::Global;
+use std::io;
 use std::process::ExitCode;
-use std::rt::Env;
-use std::{env, io};
 use telling::{tell, tell_no_memory, tell_usage};
 
 /// What standard input is called, which is read under any name.
 const INPUT: &str = "standard input";
-
-/// The words behind the program's name. An error where one of them isn't text, or where memory is wanting.
-fn arguments(rt: &(impl Env + AllocGlobal)) -> io::Result<Vec<String>> {
-    let mut words = env::args(rt)?;
-    let _ = words.next();
-    Ok(words.collect(rt.alloc())?)
-}
 
 /// Packs or unpacks standard input.
 fn answer<F: Files, S: Sink>(
@@ -41,7 +34,7 @@ fn answer<F: Files, S: Sink>(
     request: &Request,
 ) -> Result<(), PackError>
     requires low { 2 ≤ request.now.size }
-    requires high { request.now.size ≤ 2 ^ 16 }
+    requires high { request.now.size ≤ slot_limit }
     requires may { IsTrue (F.may files.old (F.opens files.old) INPUT.now) }
 {
     files.open(INPUT)?;

@@ -1,11 +1,12 @@
 //! What the words ask for.
 
-ghost use Rattle.std.specs.Prelude.{◌≤◌, ◌^◌, IfSome};
+ghost use Rattle.std.specs.Prelude.{◌≤◌, IfSome};
+ghost use Rattle.ospack_slots.specs.Limits.{slot_limit};
+
+use ospack_slots::SLOT_LIMIT;
 
 /// How many bytes the length of a slot takes: no slot is shorter.
 const LEAST: u32 = 2;
-/// How many bytes a slot has at most, as many as a window has elements.
-const MOST: u32 = 65_536;
 
 /// From slots to what is packed of them, or back.
 #[derive(Clone, Copy, Debug, PartialEq, Eq)]
@@ -25,7 +26,7 @@ pub(crate) struct Request {
 /// What the words ask for, if they do: the name of a way and the size of a slot.
 pub(crate) fn request_of(words: &[String]) -> Option<Request>
     ensures low { IfSome result (λ request. 2 ≤ request.size) }
-    ensures high { IfSome result (λ request. request.size ≤ 2 ^ 16) }
+    ensures high { IfSome result (λ request. request.size ≤ slot_limit) }
 {
     if words.len() != 2 {
         return None;
@@ -49,10 +50,10 @@ fn way_of(word: &str) -> Option<Way> {
 /// The size of a slot that a word names.
 fn size_of(word: &str) -> Option<u32>
     ensures low { IfSome result (λ size. 2 ≤ size) }
-    ensures high { IfSome result (λ size. size ≤ 2 ^ 16) }
+    ensures high { IfSome result (λ size. size ≤ slot_limit) }
 {
     match word.parse::<u32>() {
-        Ok(size) if LEAST <= size && size <= MOST => Some(size),
+        Ok(size) if LEAST <= size && size <= SLOT_LIMIT => Some(size),
         _ => None,
     }
 }

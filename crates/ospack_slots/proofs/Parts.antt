@@ -27,7 +27,7 @@ packs none = none
 packs {size = size} (more p q r qs here parts) =
     more (piece q) q (flat_map piece qs) qs (record { fits = slot_length size p q here; holds = refl }) (packs parts)
 
--- with zeros behind them the bytes are so many more
+-- with `n` zeros behind them the bytes are `n` more
 padded : (n : ℕ) (xs : List ℕ) → length (xs ++ replicate n 0) ≡ length xs + n
 padded n xs = length-append xs (replicate n 0) ∙ ap (λ (k : ℕ). length xs + k) (length-replicate {A = ℕ} n 0)
 

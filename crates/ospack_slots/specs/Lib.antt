@@ -1,4 +1,5 @@
 -- What a reader believes: what slots and pieces hold, and what packing and unpacking answer.
+pub mod Limits
 pub mod Slots
 pub mod Formats
 pub mod Answers

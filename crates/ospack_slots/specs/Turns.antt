@@ -24,7 +24,7 @@ IsTurn f number before after (Err (Write e)) =
 IsTurn f number before after (Err Memory) = ⊥
 IsTurn f number before after (Err Uncounted) = ⊥
 
--- so many parts were read, and all that is to be written of them was written
+-- `number` parts were read, and all that is to be written of them was written
 pub record WentSoFar (f : Format) (number : ℕ) (before after : Moment) : Type 0 where
   pub payloads : List (List ℕ)
   pub whole : List ℕ

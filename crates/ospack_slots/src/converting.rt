@@ -1,8 +1,9 @@
-ghost use Rattle.std.specs.Prelude.{◌≡◌, ◌≢◌, ◌^◌, ◌≤◌, length, IsErrOf, Err};
+ghost use Rattle.std.specs.Prelude.{◌≡◌, ◌≢◌, ◌≤◌, length, IsErrOf, Err};
 ghost use Rattle.os_io.specs.Counts.{HasRisen};
 ghost use Rattle.os_io.specs.declared.writing.WriteError.TheVariants as write_error;
 ghost use Rattle.ospack_slots.specs.Formats.{format_of};
 ghost use Rattle.ospack_slots.specs.Answers.{AnswersFor};
+ghost use Rattle.ospack_slots.specs.Limits.{slot_limit};
 ghost use Rattle.ospack_slots.specs.Turns.{IsTurn};
 
 use crate::errors::PackError;
@@ -20,7 +21,7 @@ pub(crate) fn convert<F: Files, S: Sink>(
     slot: &mut [u8],
 ) -> Result<(), PackError>
     requires low { 2 ≤ length slot.old }
-    requires high { length slot.old ≤ 2 ^ 16 }
+    requires high { length slot.old ≤ slot_limit }
     ensures answer { AnswersFor (format_of way (length slot.old))
         (record { left = F.rest files.old; given = F.given files.old; taken = S.taken out.old })
         (record { left = F.rest files.new; given = F.given files.new; taken = S.taken out.new }) result }
@@ -54,7 +55,7 @@ fn convert_next<F: Files, S: Sink>(
     number: u64,
 ) -> Result<Turn, PackError>
     requires low { 2 ≤ length slot.old }
-    requires high { length slot.old ≤ 2 ^ 16 }
+    requires high { length slot.old ≤ slot_limit }
     ensures turn { IsTurn (format_of way (length slot.old)) number
         (record { left = F.rest files.old; given = F.given files.old; taken = S.taken out.old })
         (record { left = F.rest files.new; given = F.given files.new; taken = S.taken out.new }) result }

@@ -14,6 +14,7 @@ mod errors;
 mod filling;
 mod laws;
 mod length;
+mod limits;
 mod packing;
 mod padding;
 mod turn;
@@ -22,5 +23,6 @@ mod way;
 
 pub use errors::{PackError, SlotFault};
 pub use laws::{inputs_have_one_answer, unpacks_what_was_packed};
+pub use limits::SLOT_LIMIT;
 pub use packing::pack;
 pub use unpacking::unpack;

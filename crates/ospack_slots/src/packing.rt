@@ -1,8 +1,9 @@
-ghost use Rattle.std.specs.Prelude.{◌≡◌, ◌≢◌, ◌^◌, ◌≤◌, length, IsErrOf, Err};
+ghost use Rattle.std.specs.Prelude.{◌≡◌, ◌≢◌, ◌≤◌, length, IsErrOf, Err};
 ghost use Rattle.os_io.specs.Counts.{HasRisen};
 ghost use Rattle.os_io.specs.declared.writing.WriteError.TheVariants as write_error;
 ghost use Rattle.ospack_slots.specs.Formats.{packing};
 ghost use Rattle.ospack_slots.specs.Answers.{AnswersFor};
+ghost use Rattle.ospack_slots.specs.Limits.{slot_limit};
 ghost use Rattle.ospack_slots.specs.Turns.{IsTurn};
 
 use crate::converting::convert;
@@ -24,7 +25,7 @@ pub fn pack<F: Files, S: Sink>(
     size: u32,
 ) -> Result<(), PackError>
     requires low { 2 ≤ size }
-    requires high { size ≤ 2 ^ 16 }
+    requires high { size ≤ slot_limit }
     // What was read and written.
     ensures answer { AnswersFor (packing size)
         (record { left = F.rest files.old; given = F.given files.old; taken = S.taken out.old })
@@ -55,7 +56,7 @@ pub(crate) fn pack_next<F: Files, S: Sink>(
     number: u64,
 ) -> Result<Turn, PackError>
     requires low { 2 ≤ length slot.old }
-    requires high { length slot.old ≤ 2 ^ 16 }
+    requires high { length slot.old ≤ slot_limit }
     ensures turn { IsTurn (packing (length slot.old)) number
         (record { left = F.rest files.old; given = F.given files.old; taken = S.taken out.old })
         (record { left = F.rest files.new; given = F.given files.new; taken = S.taken out.new }) result }

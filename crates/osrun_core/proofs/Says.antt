@@ -21,15 +21,15 @@ use Rattle.osrun_core.specs.Codes.{IsObjectOfJob, IsRunOfObject}
 use Rattle.osrun_core.specs.Lines.{IsLineOfJob}
 use Rattle.osrun_core.specs.Read.{IsRead}
 use Rattle.osrun_core.specs.Traces.{AreListsOfJob, IsLineOfReplay, IsRunByTrace, IsTraceOfJob}
-use Rattle.osrun_core_answer.specs.Answers.{AnswersRequest, HasCause, IsCut, IsGiven, IsMade, IsNotReplayed, IsRefused, IsUnasked, IsUnmade, asked_files}
+use Rattle.osrun_core_answer.specs.Answers.{AnswersRequest, HasCause, IsCut, IsGiven, IsMade, IsNotReplayed, IsFileRefused, IsUnasked, IsUnmade, asked_files}
 use Rattle.osrun_core_answer.proofs.Findings.{small_status}
 use Rattle.osrun_core_answer.specs.Gen.{IsRunOfGen, gen_lines}
 use Rattle.osrun_core_answer.specs.JobOutcome.{GivesReplay, GivesRun, IsOutcome, IsOutcomeOfCompile, IsOutcomeOfExec, IsOutcomeOfExplain, IsOutcomeOfGen, IsOutcomeOfReplay, IsOutcomeOfRun, IsOutcomeOfTrace, JobOutcome, replay_budgets}
 use Rattle.osrun_core_jobs.specs.Files.{AreBytesOf, JobFile, files_of, limit_of}
-use Rattle.osrun_core_jobs.specs.Jobs.{Compile, CompileJob, Exec, ExecJob, Explain, ExplainJob, Gen, GenJob, IsRequestWithin, Job, Replay, ReplayJob, Request, Run as RunRequest, Trace, TraceJob, compile_in, exec_in, explain_in, gen_in, replay_in, run_in, trace_in}
+use Rattle.osrun_core_jobs.specs.Jobs.{Compile, CompileJob, Exec, ExecJob, Explain, ExplainJob, Gen, GenJob, IsRequestWithin, Job, Replay, ReplayJob, Request, Run, Trace, TraceJob, compile_in, exec_in, explain_in, gen_in, replay_in, run_in, trace_in}
 use Rattle.osrun_core_jobs.specs.Reading.{EndedAt, IsCauseOf, IsFailed, IsReadable, IsRejected, ReadsInOrder, WereRead}
 use Rattle.osrun_core_jobs.specs.Refusal.{refusal_line, refusal_status, usage_line}
-use Rattle.osrun_core_jobs.specs.Status.{code_of}
+use Rattle.osrun_core_jobs.specs.Status.{status_code}
 use Rattle.osrun_core_jobs.specs.Telling.{HasTrouble, IsCutShort, IsUndelivered, Tells}
 use Rattle.osrun_core_jobs.specs.declared.refusal.Refusal.{Refusal}
 use Rattle.osrun_core_jobs.specs.declared.refusal.Refusal.TheVariants as refusals
@@ -47,9 +47,9 @@ use Rattle.trace_replay_laws.specs.declared.replayed.Replayed.TheVariants as rep
 -- ---- what is asked for
 
 -- what holds wherever this run is asked for
-on_run : (asked : Option Request) (P : Job → Type 0) → ((job : Job) → asked ≡ Some (RunRequest job) → P job) → IfSome (option_and_then run_in asked) P
+on_run : (asked : Option Request) (P : Job → Type 0) → ((job : Job) → asked ≡ Some (Run job) → P job) → IfSome (option_and_then run_in asked) P
 on_run None P f = tt
-on_run (Some (RunRequest job)) P f = f job refl
+on_run (Some (Run job)) P f = f job refl
 on_run (Some (Gen job)) P f = tt
 on_run (Some (Compile job)) P f = tt
 on_run (Some (Exec job)) P f = tt
@@ -59,7 +59,7 @@ on_run (Some (Replay job)) P f = tt
 
 on_gen : (asked : Option Request) (P : GenJob → Type 0) → ((job : GenJob) → asked ≡ Some (Gen job) → P job) → IfSome (option_and_then gen_in asked) P
 on_gen None P f = tt
-on_gen (Some (RunRequest job)) P f = tt
+on_gen (Some (Run job)) P f = tt
 on_gen (Some (Gen job)) P f = f job refl
 on_gen (Some (Compile job)) P f = tt
 on_gen (Some (Exec job)) P f = tt
@@ -69,7 +69,7 @@ on_gen (Some (Replay job)) P f = tt
 
 on_compile : (asked : Option Request) (P : CompileJob → Type 0) → ((job : CompileJob) → asked ≡ Some (Compile job) → P job) → IfSome (option_and_then compile_in asked) P
 on_compile None P f = tt
-on_compile (Some (RunRequest job)) P f = tt
+on_compile (Some (Run job)) P f = tt
 on_compile (Some (Gen job)) P f = tt
 on_compile (Some (Compile job)) P f = f job refl
 on_compile (Some (Exec job)) P f = tt
@@ -79,7 +79,7 @@ on_compile (Some (Replay job)) P f = tt
 
 on_exec : (asked : Option Request) (P : ExecJob → Type 0) → ((job : ExecJob) → asked ≡ Some (Exec job) → P job) → IfSome (option_and_then exec_in asked) P
 on_exec None P f = tt
-on_exec (Some (RunRequest job)) P f = tt
+on_exec (Some (Run job)) P f = tt
 on_exec (Some (Gen job)) P f = tt
 on_exec (Some (Compile job)) P f = tt
 on_exec (Some (Exec job)) P f = f job refl
@@ -89,7 +89,7 @@ on_exec (Some (Replay job)) P f = tt
 
 on_explain : (asked : Option Request) (P : ExplainJob → Type 0) → ((job : ExplainJob) → asked ≡ Some (Explain job) → P job) → IfSome (option_and_then explain_in asked) P
 on_explain None P f = tt
-on_explain (Some (RunRequest job)) P f = tt
+on_explain (Some (Run job)) P f = tt
 on_explain (Some (Gen job)) P f = tt
 on_explain (Some (Compile job)) P f = tt
 on_explain (Some (Exec job)) P f = tt
@@ -99,7 +99,7 @@ on_explain (Some (Replay job)) P f = tt
 
 on_trace : (asked : Option Request) (P : TraceJob → Type 0) → ((job : TraceJob) → asked ≡ Some (Trace job) → P job) → IfSome (option_and_then trace_in asked) P
 on_trace None P f = tt
-on_trace (Some (RunRequest job)) P f = tt
+on_trace (Some (Run job)) P f = tt
 on_trace (Some (Gen job)) P f = tt
 on_trace (Some (Compile job)) P f = tt
 on_trace (Some (Exec job)) P f = tt
@@ -109,7 +109,7 @@ on_trace (Some (Replay job)) P f = tt
 
 on_replay : (asked : Option Request) (P : ReplayJob → Type 0) → ((job : ReplayJob) → asked ≡ Some (Replay job) → P job) → IfSome (option_and_then replay_in asked) P
 on_replay None P f = tt
-on_replay (Some (RunRequest job)) P f = tt
+on_replay (Some (Run job)) P f = tt
 on_replay (Some (Gen job)) P f = tt
 on_replay (Some (Compile job)) P f = tt
 on_replay (Some (Exec job)) P f = tt
@@ -139,7 +139,7 @@ status_small ends control n is = choice_small _ n is
 
 -- only a replay is meant to give the status 8
 of_replay : (contents : List (List ℕ)) (request : Request) (outcome : JobOutcome) → IsOutcome contents request outcome → outcome.own ≡ 8 → IsSome (replay_in request)
-of_replay contents (RunRequest job) outcome o own = absurd (let small = status_small o.run.ends.ends o.run.control.end outcome.own o.status_is in omega (arith, own, small))
+of_replay contents (Run job) outcome o own = absurd (let small = status_small o.run.ends.ends o.run.control.end outcome.own o.status_is in omega (arith, own, small))
 of_replay contents (Gen job) outcome o own = absurd (let is = o.status_is in omega (arith, own, is))
 of_replay contents (Compile job) outcome o own = absurd (let is = o.status_is in omega (arith, own, is))
 of_replay contents (Exec job) outcome o own = absurd (let small = status_small o.run.ends.ends o.run.control.end outcome.own o.status_is in omega (arith, own, small))
@@ -262,12 +262,12 @@ module _ {F : Type 0} (view : FilesView F) where
 
   module _ (job : Job) (old new : F) where
     -- both files of a run that were read, by what they have given
-    the_run : (contents : List (List ℕ)) (outcome : JobOutcome) → IsOutcomeOfRun contents job outcome → WereRead IsUsable view old new (files_of (RunRequest job)) contents
+    the_run : (contents : List (List ℕ)) (outcome : JobOutcome) → IsOutcomeOfRun contents job outcome → WereRead IsUsable view old new (files_of (Run job)) contents
         → (run : ProgramRun) × IsRunOfJob (view.holds old) job run × (view.given new ≡ length run.input) × (outcome.output ≡ written run.ends.output)
         × (outcome.told ≡ report_of run.control.activations (length run.input) run.ends run.control.end) × (outcome.own ≡ status_of run.ends.ends run.control.end)
         × (view.opens new ≡ raised (view.opens old) 2) × (length run.input ≤ 4194304)
     the_run contents outcome o read =
-        let both = subst (WereRead IsUsable view old new (files_of (RunRequest job))) o.contents_are read in
+        let both = subst (WereRead IsUsable view old new (files_of (Run job))) o.contents_are read in
         let of_text = both.1 in
         let of_input = both.2.1 in
         let end : new ≡ both.2.0 = both.2.2 in
@@ -285,7 +285,7 @@ module _ {F : Type 0} (view : FilesView F) where
         )
 
     -- both files were opened
-    both_opened : (contents : List (List ℕ)) → WereRead IsUsable view old new (files_of (RunRequest job)) contents → view.opens new ≡ raised (view.opens old) 2
+    both_opened : (contents : List (List ℕ)) → WereRead IsUsable view old new (files_of (Run job)) contents → view.opens new ≡ raised (view.opens old) 2
     both_opened [] read = absurd read
     both_opened (text ∷ []) read = absurd read.2
     both_opened (text ∷ input ∷ []) read =
@@ -295,15 +295,15 @@ module _ {F : Type 0} (view : FilesView F) where
     both_opened (text ∷ input ∷ other ∷ contents) read = absurd read.2.2
 
     -- where a run's reading came to, the files before were read
-    read_before : ReadsInOrder IsUsable view old new (files_of (RunRequest job)) → (k : ℕ) → view.opens old + k < view.opens new
-        → All (IsRead (view.holds old)) (take k (files_of (RunRequest job)))
+    read_before : ReadsInOrder IsUsable view old new (files_of (Run job)) → (k : ℕ) → view.opens old + k < view.opens new
+        → All (IsRead (view.holds old)) (take k (files_of (Run job)))
     read_before (inl same) k more = absurd (let e = ap view.opens same in omega (arith, e, more))
     read_before (inr (inl read)) zero more = All-nil (IsRead (view.holds old))
-    read_before (inr (inl read)) (suc zero) more = read_first 1 2 old new (files_of (RunRequest job)) read.0 (omega arith) read.1
+    read_before (inr (inl read)) (suc zero) more = read_first 1 2 old new (files_of (Run job)) read.0 (omega arith) read.1
     read_before (inr (inl read)) (suc (suc k)) more = absurd (let opened = both_opened read.0 read.1 in omega (arith, opened, more))
     read_before (inr (inr ended)) k more =
-        let opened = ended_opens old new (files_of (RunRequest job)) ended.0 ended.1 ended.2 in
-        read_first k ended.0 old ended.2.before (files_of (RunRequest job)) ended.2.contents (omega (arith, opened, more)) ended.2.earlier
+        let opened = ended_opens old new (files_of (Run job)) ended.0 ended.1 ended.2 in
+        read_first k ended.0 old ended.2.before (files_of (Run job)) ended.2.contents (omega (arith, opened, more)) ended.2.earlier
 
   -- the object that was read with its input, by what they have given
   the_exec : (job : ExecJob) (old new : F) (contents : List (List ℕ)) (outcome : JobOutcome) → IsOutcomeOfExec contents job outcome
@@ -451,7 +451,7 @@ module _ {F : Type 0} (view : FilesView F) (old new : F) (files : List JobFile) 
 
 -- no cause but a fault counts one
 unread_alone : {F : Type 0} (view : FilesView F) (old new : F) (file : JobFile) (r : Refusal) → IsFailed IsUnusable view old new file r
-    → code_of (refusal_status r) < 5 → view.faults new ≡ view.faults old
+    → status_code (refusal_status r) < 5 → view.faults new ≡ view.faults old
 unread_alone view old new file (refusals.Refused code line) failed small = failed.no_fault
 unread_alone view old new file (refusals.TooLong subject) failed small = failed.no_fault
 unread_alone view old new file (refusals.ReadFault subject) failed small = absurd (omega (arith, small))
@@ -459,7 +459,7 @@ unread_alone view old new file refusals.Memory failed small = absurd (omega (ari
 
 -- a file of which more than its limit was given is too long
 past_limit : {F : Type 0} (view : FilesView F) (old new : F) (file : JobFile) (r : Refusal) → IsFailed IsUnusable view old new file r
-    → limit_of file.subject < view.given new → (code_of (refusal_status r) ≡ 4) ⊎ (code_of (refusal_status r) ≡ 7)
+    → limit_of file.subject < view.given new → (status_code (refusal_status r) ≡ 4) ⊎ (status_code (refusal_status r) ≡ 7)
 past_limit view old new file (refusals.Refused code line) failed more = absurd (omega (arith, failed.whole, failed.read.fits, more))
 past_limit view old new file (refusals.TooLong subject) failed more = inl refl
 past_limit view old new file (refusals.ReadFault subject) failed more = absurd (omega (arith, failed.within, more))
@@ -471,7 +471,7 @@ FitsAsTold holds file = (bytes : List ℕ) × (holds file.name ≡ Some bytes) �
 
 -- such a file isn't too long
 fits_so : {F : Type 0} (view : FilesView F) (old new : F) (file : JobFile) (r : Refusal) → FitsAsTold (view.holds old) file
-    → IsFailed IsUnusable view old new file r → code_of (refusal_status r) ≡ 4 → ⊥
+    → IsFailed IsUnusable view old new file r → status_code (refusal_status r) ≡ 4 → ⊥
 fits_so view old new file (refusals.Refused code line) fits failed four = omega (arith, four)
 fits_so view old new file (refusals.TooLong subject) fits failed four =
     let long = subst (λ t. IfSome t (λ told. limit_of file.subject < length told)) fits.1 failed.held in
@@ -482,7 +482,7 @@ fits_so view old new file refusals.Memory fits failed four = omega (arith, four)
 
 -- a failed read has counted a fault
 a_fault : {F : Type 0} (view : FilesView F) (old new : F) (file : JobFile) (r : Refusal) → IsFailed IsUnusable view old new file r
-    → code_of (refusal_status r) ≡ 5 → HasRisen (view.faults old) (view.faults new)
+    → status_code (refusal_status r) ≡ 5 → HasRisen (view.faults old) (view.faults new)
 a_fault view old new file (refusals.Refused code line) failed five = absurd (omega (arith, five))
 a_fault view old new file (refusals.TooLong subject) failed five = absurd (omega (arith, five))
 a_fault view old new file (refusals.ReadFault subject) failed five = failed.fault
@@ -523,13 +523,13 @@ module _ {F O E : Type 0} (of_files : FilesView F) (fo fn : F) (of_out : SinkVie
   -- the six ways in which a call ends
   pub cases : {C : Type 0} → (IsGiven of_files fo fn of_out oo on of_report ro rn asked status → status < 2 → C)
       → (IsUnasked fo fn oo on of_report ro rn asked → status ≡ 2 → C)
-      → ((s : Status) → IsRefused of_files fo fn oo on of_report ro rn asked s → status ≡ code_of s → 3 ≤ status → status ≤ 5 → C)
+      → ((s : Status) → IsFileRefused of_files fo fn oo on of_report ro rn asked s → status ≡ status_code s → 3 ≤ status → status ≤ 5 → C)
       → (IsCut of_files fo fn of_out oo on of_report ro rn asked → status ≡ 6 → C)
       → (IsUnmade oo on ro rn → status ≡ 7 → C)
       → (IsNotReplayed of_files fo fn oo on of_report ro rn asked → status ≡ 8 → C) → C
   cases {C} given unasked refused cut unmade not_replayed = by answer.answered answer.status_is answer.cause
     where
-      by : (s : Status) → status ≡ code_of s → HasCause of_files fo fn of_out oo on of_report ro rn asked s → C
+      by : (s : Status) → status ≡ status_code s → HasCause of_files fo fn of_out oo on of_report ro rn asked s → C
       by statuses.AllDone is h = given (subst (IsGiven of_files fo fn of_out oo on of_report ro rn asked) (sym is) h) (omega (arith, is))
       by statuses.NotAllDone is h = given (subst (IsGiven of_files fo fn of_out oo on of_report ro rn asked) (sym is) h) (omega (arith, is))
       by statuses.BadWords is h = unasked h is
@@ -541,12 +541,12 @@ module _ {F O E : Type 0} (of_files : FilesView F) (fo fn : F) (of_out : SinkVie
       by statuses.NotReplayed is h = not_replayed h is
 
   -- the run that was made
-  made_run : (made : IsMade of_files fo fn asked) (job : Job) → asked ≡ Some (RunRequest job)
+  made_run : (made : IsMade of_files fo fn asked) (job : Job) → asked ≡ Some (Run job)
       → (run : ProgramRun) × IsRunOfJob (of_files.holds fo) job run × (of_files.given fn ≡ length run.input) × (made.outcome.output ≡ written run.ends.output)
       × (made.outcome.told ≡ report_of run.control.activations (length run.input) run.ends run.control.end) × (made.outcome.own ≡ status_of run.ends.ends run.control.end)
       × (of_files.opens fn ≡ raised (of_files.opens fo) 2) × (length run.input ≤ 4194304)
   made_run made job is =
-      let same : made.request ≡ RunRequest job = one asked made.request (RunRequest job) made.is_asked is in
+      let same : made.request ≡ Run job = one asked made.request (Run job) made.is_asked is in
       the_run of_files job fo fn made.contents made.outcome (subst (λ q. IsOutcome made.contents q made.outcome) same made.is_outcome)
       (subst (λ q. WereRead IsUsable of_files fo fn (files_of q) made.contents) same made.read)
 
@@ -596,10 +596,10 @@ module _ {F O E : Type 0} (of_files : FilesView F) (fo fn : F) (of_out : SinkVie
       (λ h _. subst (λ a. IsSome (option_and_then replay_in a)) (sym h.made.is_asked) (line_of_replay h.made h.own))
 
   -- what is refused is a run
-  refused_run : (s : Status) (h : IsRefused of_files fo fn oo on of_report ro rn asked s) (job : Job) → asked ≡ Some (RunRequest job)
-      → IsCauseOf IsUsable IsUnusable of_files fo fn (files_of (RunRequest job)) h.refusal
+  refused_run : (s : Status) (h : IsFileRefused of_files fo fn oo on of_report ro rn asked s) (job : Job) → asked ≡ Some (Run job)
+      → IsCauseOf IsUsable IsUnusable of_files fo fn (files_of (Run job)) h.refusal
   refused_run s h job is =
-      subst (λ q. IsCauseOf IsUsable IsUnusable of_files fo fn (files_of q) h.refusal) (one asked h.request (RunRequest job) h.is_asked is) h.cause
+      subst (λ q. IsCauseOf IsUsable IsUnusable of_files fo fn (files_of q) h.refusal) (one asked h.request (Run job) h.is_asked is) h.cause
 
   pub headline : status < 2 → IfSome (option_and_then run_in asked) (λ job. (run : ProgramRun) × IsRunOfJob (of_files.holds fo) job run
       × (of_files.given fn ≡ length run.input) × (of_out.taken on ≡ append_known (of_out.taken oo) (written run.ends.output))
@@ -614,7 +614,7 @@ module _ {F O E : Type 0} (of_files : FilesView F) (fo fn : F) (of_out : SinkVie
       (λ _ n. absurd (omega (arith, n, small)))
       (λ _ n. absurd (omega (arith, n, small))))
 
-  pub all_opened : (status < 2) ⊎ (status ≡ 6) → IfSome (option_and_then run_in asked) (λ job. of_files.opens fn ≡ raised (of_files.opens fo) (length (files_of (RunRequest job))))
+  pub all_opened : (status < 2) ⊎ (status ≡ 6) → IfSome (option_and_then run_in asked) (λ job. of_files.opens fn ≡ raised (of_files.opens fo) (length (files_of (Run job))))
   all_opened which = on_run asked _ (λ job is. cases
       (λ g _. (made_run g.made job is).6)
       (λ _ n. absurd (never which (omega (arith, n)) (λ six. omega (arith, n, six))))
@@ -670,27 +670,27 @@ module _ {F O E : Type 0} (of_files : FilesView F) (fo fn : F) (of_out : SinkVie
       (λ _ n. absurd (omega (arith, n, two)))
       (λ _ n. absurd (omega (arith, n, two)))
 
-  pub refused : 3 ≤ status → status ≤ 5 → IsSomeAnd asked (λ request. (refusal : Refusal) × (status ≡ code_of (refusal_status refusal))
+  pub refused : 3 ≤ status → status ≤ 5 → IsSomeAnd asked (λ request. (refusal : Refusal) × (status ≡ status_code (refusal_status refusal))
       × IsCauseOf IsUsable IsUnusable of_files fo fn (files_of request) refusal × Tells of_report ro rn (refusal_line refusal))
   refused low high = cases
       (λ _ n. absurd (omega (arith, n, low)))
       (λ _ n. absurd (omega (arith, n, low)))
-      (λ s h is _ _. subst (λ a. IsSomeAnd a (λ request. (refusal : Refusal) × (status ≡ code_of (refusal_status refusal))
+      (λ s h is _ _. subst (λ a. IsSomeAnd a (λ request. (refusal : Refusal) × (status ≡ status_code (refusal_status refusal))
       × IsCauseOf IsUsable IsUnusable of_files fo fn (files_of request) refusal × Tells of_report ro rn (refusal_line refusal))) (sym h.is_asked)
-      (h.refusal, is ∙ ap code_of h.answered_is, h.cause, h.report))
+      (h.refusal, is ∙ ap status_code h.answered_is, h.cause, h.report))
       (λ _ n. absurd (omega (arith, n, high)))
       (λ _ n. absurd (omega (arith, n, high)))
       (λ _ n. absurd (omega (arith, n, high)))
 
   pub opened_last : 3 ≤ status → status ≤ 5 → IfSome (option_and_then run_in asked) (λ job. (place : ℕ) × (file : JobFile) × (refusal : Refusal)
-      × (slice_get (files_of (RunRequest job)) place ≡ Some file) × (of_files.opens fn ≡ raised (of_files.opens fo) (place + 1))
-      × All (IsRead (of_files.holds fo)) (take place (files_of (RunRequest job))) × IsFailed IsUnusable of_files fo fn file refusal
-      × (status ≡ code_of (refusal_status refusal)) × Tells of_report ro rn (refusal_line refusal))
+      × (slice_get (files_of (Run job)) place ≡ Some file) × (of_files.opens fn ≡ raised (of_files.opens fo) (place + 1))
+      × All (IsRead (of_files.holds fo)) (take place (files_of (Run job))) × IsFailed IsUnusable of_files fo fn file refusal
+      × (status ≡ status_code (refusal_status refusal)) × Tells of_report ro rn (refusal_line refusal))
   opened_last low high = on_run asked _ (λ job is. cases
       (λ _ n. absurd (omega (arith, n, low)))
       (λ _ n. absurd (omega (arith, n, low)))
       (λ s h status_is _ _.
-      let files = files_of (RunRequest job) in
+      let files = files_of (Run job) in
       let cause = refused_run s h job is in
       let before = cause.ended.before in
       let k = kept of_files fo before (take cause.place files) cause.ended.contents cause.ended.earlier in (
@@ -701,7 +701,7 @@ module _ {F O E : Type 0} (of_files : FilesView F) (fo fn : F) (of_out : SinkVie
         ended_opens of_files fo fn files cause.place cause.file cause.ended,
         read_first of_files cause.place cause.place fo before files cause.ended.contents (omega arith) cause.ended.earlier,
         failed_from of_files fo before fn cause.file h.refusal k.0 k.2 cause.failed,
-        status_is ∙ ap code_of h.answered_is,
+        status_is ∙ ap status_code h.answered_is,
         h.report,
       ))
       (λ _ n. absurd (omega (arith, n, high)))
@@ -735,7 +735,7 @@ module _ {F O E : Type 0} (of_files : FilesView F) (fo fn : F) (of_out : SinkVie
       let few_too = slice_get_within (files_of request) cause.place cause.file cause.ended.is_there in
       let same : file ≡ cause.file = same_file (files_of request) place cause.place file cause.file at cause.ended.is_there (omega (arith, few, few_too, room, opened, ended)) in
       let limit : limit_of file.subject ≡ limit_of cause.file.subject = ap (λ (f : JobFile). limit_of f.subject) same in
-      subst (λ n. (n ≡ 4) ⊎ (n ≡ 7)) (sym (status_is ∙ ap code_of h.answered_is))
+      subst (λ n. (n ≡ 4) ⊎ (n ≡ 7)) (sym (status_is ∙ ap status_code h.answered_is))
       (past_limit of_files cause.ended.before fn cause.file h.refusal cause.failed (omega (arith, limit, more))))
       (λ c _. absurd (too_much c.made request is place file at room opened more))
       (λ _ n. inr n)
@@ -780,14 +780,14 @@ module _ {F O E : Type 0} (of_files : FilesView F) (fo fn : F) (of_out : SinkVie
   statuses_small = cases (λ _ n. omega (arith, n)) (λ _ n. omega (arith, n)) (λ _ _ _ _ n. omega (arith, n)) (λ _ n. omega (arith, n)) (λ _ n. omega (arith, n)) (λ _ n. omega (arith, n))
 
   -- how far the files of a run were read
-  reads_run : (job : Job) → asked ≡ Some (RunRequest job) → ReadsInOrder IsUsable of_files fo fn (files_of (RunRequest job))
+  reads_run : (job : Job) → asked ≡ Some (Run job) → ReadsInOrder IsUsable of_files fo fn (files_of (Run job))
   reads_run job is = subst (λ a. ReadsInOrder IsUsable of_files fo fn (asked_files a)) is answer.reads
 
   pub in_order : IfSome asked (λ request. ReadsInOrder IsUsable of_files fo fn (files_of request))
   in_order = on_request asked _ (λ request is. subst (λ a. ReadsInOrder IsUsable of_files fo fn (asked_files a)) is answer.reads)
 
   pub read_earlier : IfSome (option_and_then run_in asked) (λ job. (k : ℕ) → of_files.opens fo + k < of_files.opens fn
-      → All (IsRead (of_files.holds fo)) (take k (files_of (RunRequest job))))
+      → All (IsRead (of_files.holds fo)) (take k (files_of (Run job))))
   read_earlier = on_run asked _ (λ job is. read_before of_files job fo fn (reads_run job is))
 
   -- what is not delivered has trouble
@@ -796,14 +796,14 @@ module _ {F O E : Type 0} (of_files : FilesView F) (fo fn : F) (of_out : SinkVie
   troubled output lines (inr cut) out report = report cut.1.trouble
 
   -- the faults of a refusal with the status 5
-  refused_fault : (s : Status) (h : IsRefused of_files fo fn oo on of_report ro rn asked s) → status ≡ code_of s → 5 ≤ status → status ≤ 5 → HasRisen (of_files.faults fo) (of_files.faults fn)
+  refused_fault : (s : Status) (h : IsFileRefused of_files fo fn oo on of_report ro rn asked s) → status ≡ status_code s → 5 ≤ status → status ≤ 5 → HasRisen (of_files.faults fo) (of_files.faults fn)
   refused_fault s h is large high =
       let before = h.cause.ended.before in
       let k = kept of_files fo before (take h.cause.place (files_of h.request)) h.cause.ended.contents h.cause.ended.earlier in
-      let five : code_of (refusal_status h.refusal) ≡ 5 = small h.refusal (subst (λ n. 5 ≤ n) (is ∙ ap code_of h.answered_is) large) (subst (λ n. n ≤ 5) (is ∙ ap code_of h.answered_is) high) in
+      let five : status_code (refusal_status h.refusal) ≡ 5 = small h.refusal (subst (λ n. 5 ≤ n) (is ∙ ap status_code h.answered_is) large) (subst (λ n. n ≤ 5) (is ∙ ap status_code h.answered_is) high) in
       subst (λ n. HasRisen n (of_files.faults fn)) k.2 (a_fault of_files before fn h.cause.file h.refusal h.cause.failed five)
     where
-      small : (r : Refusal) → 5 ≤ code_of (refusal_status r) → code_of (refusal_status r) ≤ 5 → code_of (refusal_status r) ≡ 5
+      small : (r : Refusal) → 5 ≤ status_code (refusal_status r) → status_code (refusal_status r) ≤ 5 → status_code (refusal_status r) ≡ 5
       small r low high = omega (arith, low, high)
 
   pub complete : IfSome asked (λ request. All (IsReadable IsUsable (of_files.holds fo)) (files_of request)
@@ -832,7 +832,7 @@ module _ {F O E : Type 0} (of_files : FilesView F) (fo fn : F) (of_out : SinkVie
       (λ s h is low high.
       let before = h.cause.ended.before in
       let k = kept of_files fo before (take h.cause.place (files_of h.request)) h.cause.ended.contents h.cause.ended.earlier in
-      let same : status ≡ code_of (refusal_status h.refusal) = is ∙ ap code_of h.answered_is in
+      let same : status ≡ status_code (refusal_status h.refusal) = is ∙ ap status_code h.answered_is in
       unread_alone of_files before fn h.cause.file h.refusal h.cause.failed (subst (λ n. n < 5) same (below high)) ∙ k.2)
       (λ c _. made_faults c.made)
       (λ _ n. absurd (not_seven n))
@@ -884,7 +884,7 @@ module _ {F O E : Type 0} (of_files : FilesView F) (fo fn : F) (of_out : SinkVie
       (λ _ n. absurd (omega (arith, n, six))))
 
   -- no job of `gen` is refused, since it has no file
-  never_refused : (s : Status) (h : IsRefused of_files fo fn oo on of_report ro rn asked s) (job : GenJob) → asked ≡ Some (Gen job) → ⊥
+  never_refused : (s : Status) (h : IsFileRefused of_files fo fn oo on of_report ro rn asked s) (job : GenJob) → asked ≡ Some (Gen job) → ⊥
   never_refused s h job is =
       let cause : IsCauseOf IsUsable IsUnusable of_files fo fn [] h.refusal =
       subst (λ q. IsCauseOf IsUsable IsUnusable of_files fo fn (files_of q) h.refusal) (one asked h.request (Gen job) h.is_asked is) h.cause in
@@ -1143,8 +1143,8 @@ module _ {F O E : Type 0} (of_files : FilesView F) (fo fn : F) (of_out : SinkVie
       (subst (λ bytes. IsUsable subjects.Trace bytes) same (m.0.lists, lists.is_trace)) rejected.refused
 
   -- the cause of a refusal is no file that is told to be within its limit
-  never_too_long : (s : Status) (h : IsRefused of_files fo fn oo on of_report ro rn asked s) (job : ReplayJob) → asked ≡ Some (Replay job)
-      → All (FitsAsTold (of_files.holds fo)) (files_of (Replay job)) → code_of (refusal_status h.refusal) ≡ 4 → ⊥
+  never_too_long : (s : Status) (h : IsFileRefused of_files fo fn oo on of_report ro rn asked s) (job : ReplayJob) → asked ≡ Some (Replay job)
+      → All (FitsAsTold (of_files.holds fo)) (files_of (Replay job)) → status_code (refusal_status h.refusal) ≡ 4 → ⊥
   never_too_long s h job is fit four =
       let cause = subst (λ q. IsCauseOf IsUsable IsUnusable of_files fo fn (files_of q) h.refusal) (one asked h.request (Replay job) h.is_asked is) h.cause in
       let files = files_of (Replay job) in
@@ -1164,7 +1164,7 @@ module _ {F O E : Type 0} (of_files : FilesView F) (fo fn : F) (of_out : SinkVie
       (λ g _. absurd (not_a_trace both g.made job is rejected))
       (λ u _. absurd (none (Replay job) u.nothing_asked is))
       (λ s h status_is low high. three_or_five low high (λ four. never_too_long s h job is
-      (fit_all job program input rejected) (sym (status_is ∙ ap code_of h.answered_is) ∙ four)))
+      (fit_all job program input rejected) (sym (status_is ∙ ap status_code h.answered_is) ∙ four)))
       (λ c _. absurd (not_a_trace both c.made job is rejected))
       (λ _ n. inr (inr n))
       (λ h _. absurd (not_a_trace both h.made job is rejected)))

@@ -9,16 +9,16 @@ use Rattle.std.proofs.lemmas.Option.{get_or_from_slice_get, same_Some, slice_get
 use Rattle.front_end.specs.Texts.{OneRefusal}
 use Rattle.os_io.specs.declared.files.Files.{Ghosts as FilesView}
 use Rattle.os_io.specs.declared.sink.Sink.{Ghosts as SinkView}
-use Rattle.osrun_core.specs.Given.{Gives}
+use Rattle.osrun_core.specs.Given.{GivesOutcome}
 use Rattle.osrun_core.proofs.Says.{cases, kept, not_replayed_alone, same_file}
-use Rattle.osrun_core_answer.specs.Answers.{AnswersRequest, IsMade, IsRefused}
+use Rattle.osrun_core_answer.specs.Answers.{AnswersRequest, IsMade, IsFileRefused}
 use Rattle.osrun_core_answer.specs.JobOutcome.{JobOutcome}
 use Rattle.osrun_core_answer.specs.Laws.{IsTold, SameButForWorkers}
 use Rattle.osrun_core_jobs.specs.Files.{JobFile, files_of, limit_of}
-use Rattle.osrun_core_jobs.specs.Jobs.{Exec, Explain, Gen, Request, Run as RunRequest, replay_in}
+use Rattle.osrun_core_jobs.specs.Jobs.{Exec, Explain, Gen, Request, Run, replay_in}
 use Rattle.osrun_core_jobs.specs.Reading.{IsCauseOf, IsFailed, IsReadable, WereRead}
 use Rattle.osrun_core_jobs.specs.Refusal.{refusal_line, refusal_status}
-use Rattle.osrun_core_jobs.specs.Status.{code_of}
+use Rattle.osrun_core_jobs.specs.Status.{status_code}
 use Rattle.osrun_core_jobs.specs.Telling.{Took}
 use Rattle.osrun_core_jobs.specs.declared.refusal.Refusal.{Refusal}
 use Rattle.osrun_core_jobs.specs.declared.refusal.Refusal.TheVariants as refusals
@@ -54,9 +54,9 @@ record Alike (request other : Request) : Type 0 where
   other_replay : IsSome (replay_in other) → ⊥
 
 alike : (request other : Request) → SameButForWorkers request other → Alike request other
-alike (RunRequest job) (RunRequest other) same = record {
-  files = ap (λ name. files_of (RunRequest (record job { program = name }))) same.0
-      ∙ ap (λ name. files_of (RunRequest (record job { program = other.program; input = name }))) same.1;
+alike (Run job) (Run other) same = record {
+  files = ap (λ name. files_of (Run (record job { program = name }))) same.0
+      ∙ ap (λ name. files_of (Run (record job { program = other.program; input = name }))) same.1;
   traces = two_none _ _ program_none input_none;
   replay = false≢true;
   other_replay = false≢true;
@@ -105,7 +105,7 @@ IsJudged holds file (refusals.ReadFault _) = ⊥
 IsJudged holds file refusals.Memory = ⊥
 
 judged : {F : Type 0} (view : FilesView F) (old new : F) (file : JobFile) (r : Refusal) → IsTold (view.holds old) file
-    → IsFailed IsUnusable view old new file r → code_of (refusal_status r) < 5 → IsJudged (view.holds old) file r
+    → IsFailed IsUnusable view old new file r → status_code (refusal_status r) < 5 → IsJudged (view.holds old) file r
 judged view old new file (refusals.Refused code line) told failed small =
     let same : failed.bytes ≡ told.0 = subst (λ t. IfSome t (λ held. failed.bytes ≡ held)) told.1 failed.read.is_held in
     (failed.bytes, told.1 ∙ ap Some (sym same), failed.read.fits, failed.refused)
@@ -209,7 +209,7 @@ module _ {F : Type 0} (view : FilesView F) where
 
   -- the cause of a refusal is a verdict, where no read failed
   verdict : (old new : F) (files : List JobFile) (r : Refusal) → IsCauseOf IsUsable IsUnusable view old new files r
-      → All (IsTold (view.holds old)) files → code_of (refusal_status r) < 5 → Verdict (view.holds old) files r
+      → All (IsTold (view.holds old)) files → status_code (refusal_status r) < 5 → Verdict (view.holds old) files r
   verdict old new files r cause told small =
       let before = cause.ended.before in
       let holds : view.holds before ≡ view.holds old = (kept view old before (take cause.place files) cause.ended.contents cause.ended.earlier).0 in
@@ -228,7 +228,7 @@ module _ {F : Type 0} (view : FilesView F) where
 
 -- a refusal is given so
 abbrev refusal_outcome : Refusal → JobOutcome
-refusal_outcome r = record { output = []; told = refusal_line r; own = code_of (refusal_status r) }
+refusal_outcome r = record { output = []; told = refusal_line r; own = status_code (refusal_status r) }
 
 append_known-nil : (known : Option (List ℕ)) → known ≡ append_known known []
 append_known-nil None = refl
@@ -240,7 +240,7 @@ took_nothing view old new same = (ap view.taken same ∙ append_known-nil (view.
 module _ {F O E : Type 0} (of_files : FilesView F) (fo fn : F) (of_out : SinkView O) (oo on : O) (of_report : SinkView E) (ro rn : E)
     (request : Request) (status : ℕ) where
   abbrev Gave : JobOutcome → Type 0
-  Gave outcome = Gives of_out oo on of_report ro rn status outcome
+  Gave outcome = GivesOutcome of_out oo on of_report ro rn status outcome
 
   -- A call gives what is meant, or tells a refusal, or gives nothing: then no outcome is contradicted.
   data Way (holds : List ℕ → Option (List ℕ)) (files : List JobFile) : Type 0 where
@@ -266,12 +266,12 @@ module _ {F O E : Type 0} (of_files : FilesView F) (fo fn : F) (of_out : SinkVie
         (subst (λ q. WereRead IsUsable of_files fo fn (files_of q) made.contents) same made.read) told
 
     -- the way of a refusal
-    refused_way : (s : Status) → IsRefused of_files fo fn oo on of_report ro rn (Some request) s → status ≡ code_of s → 3 ≤ status → status ≤ 5
+    refused_way : (s : Status) → IsFileRefused of_files fo fn oo on of_report ro rn (Some request) s → status ≡ status_code s → 3 ≤ status → status ≤ 5
         → Way (of_files.holds fo) (files_of request)
     refused_way s h is low high = elim (cases_lt status 5) [
       | inl small ↦
           let same : h.request ≡ request = same_Some h.request request (sym h.is_asked) in
-          let own : status ≡ code_of (refusal_status h.refusal) = is ∙ ap code_of h.answered_is in
+          let own : status ≡ status_code (refusal_status h.refusal) = is ∙ ap status_code h.answered_is in
           was_refused h.refusal
           (verdict of_files fo fn (files_of request) h.refusal
           (subst (λ q. IsCauseOf IsUsable IsUnusable of_files fo fn (files_of q) h.refusal) same h.cause) told (subst (λ n. n < 5) own small))
@@ -312,7 +312,7 @@ module _ {F O E : Type 0} (of_files : FilesView F) (fo fn : F) (of_out : SinkVie
 module _ {F O E : Type 0} (of_files : FilesView F) (fo fn go gn : F) (of_out : SinkView O) (oo on po pn : O) (of_report : SinkView E)
     (ro rn so sn : E) (status other_status : ℕ) where
   abbrev GiveOne : Type 0
-  GiveOne = (outcome : JobOutcome) × Gives of_out oo on of_report ro rn status outcome × Gives of_out po pn of_report so sn other_status outcome
+  GiveOne = (outcome : JobOutcome) × GivesOutcome of_out oo on of_report ro rn status outcome × GivesOutcome of_out po pn of_report so sn other_status outcome
 
   -- what requests that differ in their workers are meant to give
   abbrev AreMadeAlike : Type 0
@@ -324,12 +324,12 @@ module _ {F O E : Type 0} (of_files : FilesView F) (fo fn go gn : F) (of_out : S
       → Way of_files fo fn of_out oo on of_report ro rn request status holds files
       → Way of_files go gn of_out po pn of_report so sn other other_status holds files → GiveOne
   joined texts never request other holds files traces made (was_made a _ gave) (was_made b _ also) =
-      (b.outcome, subst (Gives of_out oo on of_report ro rn status) (made a b) gave, also)
+      (b.outcome, subst (GivesOutcome of_out oo on of_report ro rn status) (made a b) gave, also)
   joined texts never request other holds files traces made (was_made a all gave) (was_refused s w also) = absurd (no_verdict never holds files s all w)
   joined texts never request other holds files traces made (was_refused r v gave) (was_made b all also) = absurd (no_verdict never holds files r all v)
   joined texts never request other holds files traces made (was_refused r v gave) (was_refused s w also) =
       let same : r ≡ s = one_verdict texts never holds files r s traces v w in
-      (refusal_outcome s, subst (λ x. Gives of_out oo on of_report ro rn status (refusal_outcome x)) same gave, also)
+      (refusal_outcome s, subst (λ x. GivesOutcome of_out oo on of_report ro rn status (refusal_outcome x)) same gave, also)
   joined texts never request other holds files traces made (was_made a _ gave) (was_lost any) = (a.outcome, gave, any a.outcome)
   joined texts never request other holds files traces made (was_refused r _ gave) (was_lost any) = (refusal_outcome r, gave, any (refusal_outcome r))
   joined texts never request other holds files traces made (was_lost any) (was_made b _ also) = (b.outcome, any b.outcome, also)

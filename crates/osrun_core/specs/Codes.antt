@@ -29,5 +29,5 @@ pub record IsRunOfObject (holds : List ℕ → Option (List ℕ)) (job : ExecJob
   pub input_read : AreBytesOf (holds job.input) Input run.input
   pub code : Parts
   pub is_object : IsObjectOf object code
-  pub control_is : run.control ≡ machine.control code (length run.input) job.control_budget
+  pub control_is : run.control ≡ machine.main_control code (length run.input) job.control_budget
   pub ends_are : run.ends ≡ code_ends code run.control.activations run.input job.task_budget

@@ -17,7 +17,7 @@ use Rattle.trace_replay_laws.specs.declared.replayed.Replayed.TheVariants.{Whole
 use Rattle.trace_replay_text.specs.Trace.{IsTraceOf, trace}
 
 -- The run is that of the job's program over its input, and the text is the trace of lists, one for each worker, in which each
--- activation with an end stands once, and nothing else. Of the file opened last so many bytes were given.
+-- activation with an end stands once, and nothing else. Of the file opened last `given` bytes were given.
 pub record IsTraceOfJob (holds : List ℕ → Option (List ℕ)) (job : TraceJob) (given : ℕ) (run : ProgramRun) (text : List ℕ) : Type 0 where
   pub is_run : IsRunOfJob holds (traced_run job) run
   pub given_is : given ≡ length run.input
@@ -36,7 +36,7 @@ replayed_run job = record {
   control_budget = job.control_budget;
 }
 
--- The lists are those that the job's trace spells. Of the file opened last so many bytes were given.
+-- The lists are those that the job's trace spells. Of the file opened last `given` bytes were given.
 pub record AreListsOfJob (holds : List ℕ → Option (List ℕ)) (job : ReplayJob) (given : ℕ) (lists : List (List ℕ)) : Type 0 where
   pub told : List ℕ
   pub told_read : AreBytesOf (holds job.trace) Trace told

@@ -20,11 +20,11 @@ use Rattle.osrun_core_answer.specs.declared.make_trace.TracedRun.{TracedRun}
 use Rattle.osrun_core_answer.proofs.Findings.{small_status}
 use Rattle.osrun_core_jobs.specs.Files.{JobFile, files_of, limit_of}
 use Rattle.osrun_core_jobs.specs.HandsOver.{HandsOver}
-use Rattle.osrun_core_jobs.specs.Jobs.{Compile, CompileJob, Exec, ExecJob, Explain, ExplainJob, Gen, GenJob, IsExecWithin, IsExplainWithin, IsGenWithin, IsReplayWithin, IsRequestWithin, IsTraceWithin, IsWithin, Job, Replay as ReplayRequest, ReplayJob, Request, Run as RunRequest, Trace, TraceJob}
+use Rattle.osrun_core_jobs.specs.Jobs.{Compile, CompileJob, Exec, ExecJob, Explain, ExplainJob, Gen, GenJob, IsExecWithin, IsExplainWithin, IsGenWithin, IsReplayWithin, IsRequestWithin, IsTraceWithin, IsWithin, Job, Replay as ReplayRequest, ReplayJob, Request, Run, Trace, TraceJob}
 use Rattle.osrun_core_jobs.specs.Reading.{IsCauseOf, IsFailed, IsReadable, IsRejected, ReadsInOrder, WasRead, WereRead}
 use Rattle.osrun_core_jobs.specs.Refusal.{refusal_status, usage_line}
 use Rattle.osrun_core_jobs.specs.Refuses.{Refuses}
-use Rattle.osrun_core_jobs.specs.Status.{code_of}
+use Rattle.osrun_core_jobs.specs.Status.{status_code}
 use Rattle.osrun_core_jobs.specs.Telling.{IsUndelivered, Tells, Took, TookLines}
 use Rattle.osrun_core_jobs.specs.declared.refusal.Refusal.{Refusal}
 use Rattle.osrun_core_jobs.specs.declared.refusal.Refusal.TheVariants as refusals
@@ -36,7 +36,7 @@ use Rattle.osrun_core_run.specs.Refusal.{IsUnusable, IsUsable}
 use Rattle.osrun_core_run.specs.ReplayLine.{IsReplayLine}
 use Rattle.osrun_core_run.specs.Run.{ends_over}
 use Rattle.osrun_core_run.specs.RunOf.{IsRunOf}
-use Rattle.osrun_core_run.specs.declared.made.Run.{Run}
+use Rattle.osrun_core_run.specs.declared.made.MadeRun.{MadeRun}
 use Rattle.osrun_core_run.specs.declared.replaying.Replay.{Replay}
 use Rattle.osrun_core_run.specs.declared.replaying.Replay.TheVariants.{Whole, Told}
 use Rattle.trace_replay_laws.specs.declared.replayed.Replayed.{Replayed}
@@ -60,7 +60,7 @@ the_same told bytes held is is_told = subst (λ t. IfSome t (λ t. bytes ≡ t))
 module _ {F : Type 0} (view : FilesView F) (both : NeverUsableAndRefused) where
   -- a file that is told, within its limit and usable is the cause only of a fault
   only_fault : (old new : F) (file : JobFile) (r : Refusal) → IsReadable IsUsable (view.holds old) file → IsFailed IsUnusable view old new file r
-      → 5 ≤ code_of (refusal_status r)
+      → 5 ≤ status_code (refusal_status r)
   only_fault old new file (refusals.Refused code line) readable failed =
       absurd (both file.subject failed.bytes code line
       (subst (IsUsable file.subject) (sym (the_same (view.holds old file.name) failed.bytes readable.bytes failed.read.is_held readable.told)) readable.is_usable) failed.refused)
@@ -71,7 +71,7 @@ module _ {F : Type 0} (view : FilesView F) (both : NeverUsableAndRefused) where
 
   -- a file that is told, within its limit and refused is the cause of no length
   not_long : (old new : F) (file : JobFile) (r : Refusal) → IsRejected IsUnusable (view.holds old) file → IsFailed IsUnusable view old new file r
-      → (code_of (refusal_status r) ≡ 3) ⊎ ((code_of (refusal_status r) ≡ 5) ⊎ (code_of (refusal_status r) ≡ 7))
+      → (status_code (refusal_status r) ≡ 3) ⊎ ((status_code (refusal_status r) ≡ 5) ⊎ (status_code (refusal_status r) ≡ 7))
   not_long old new file (refusals.Refused code line) rejected failed = inl refl
   not_long old new file (refusals.TooLong subject) rejected failed =
       absurd (let long = subst (λ t. IfSome t (λ told. limit_of file.subject < length told)) rejected.told failed.held in omega (arith, long, rejected.fits))
@@ -99,7 +99,7 @@ module _ {F : Type 0} (view : FilesView F) (both : NeverUsableAndRefused) where
 
   -- where all files are readable, the cause is a fault
   complete_refused : (old new : F) (files : List JobFile) (r : Refusal) → IsCauseOf IsUsable IsUnusable view old new files r
-      → All (IsReadable IsUsable (view.holds old)) files → 5 ≤ code_of (refusal_status r)
+      → All (IsReadable IsUsable (view.holds old)) files → 5 ≤ status_code (refusal_status r)
   complete_refused old new files r cause all =
       let P = IsReadable IsUsable (view.holds old) in
       let here : P cause.file = subst P (get_or_from_slice_get files cause.place cause.file cause.file cause.ended.is_there)
@@ -111,7 +111,7 @@ module _ {F : Type 0} (view : FilesView F) (both : NeverUsableAndRefused) where
   -- where the first file is rejected, that is told, or a fault
   rejected_refused : (old new : F) (files : List JobFile) (r : Refusal) (first : JobFile) → IsCauseOf IsUsable IsUnusable view old new files r
       → slice_get files 0 ≡ Some first → IsRejected IsUnusable (view.holds old) first
-      → (code_of (refusal_status r) ≡ 3) ⊎ ((code_of (refusal_status r) ≡ 5) ⊎ (code_of (refusal_status r) ≡ 7))
+      → (status_code (refusal_status r) ≡ 3) ⊎ ((status_code (refusal_status r) ≡ 5) ⊎ (status_code (refusal_status r) ≡ 7))
   rejected_refused old new files r first cause at rejected =
       let same : cause.file ≡ first = first_ended old cause.ended.before files cause.place cause.file first cause.ended.contents cause.ended.is_there at cause.ended.earlier rejected in
       not_long cause.ended.before new first r
@@ -132,7 +132,7 @@ one_request request other same = same_Some request other same
 module _ {F O E : Type 0} (of_files : FilesView F) (files_old files_new : F) (of_out : SinkView O) (out_old out_new : O)
     (of_report : SinkView E) (report_old report_new : E) (asked : Option Request) where
   -- what was given, by its status
-  given_cause : (s : Status) → code_of s < 2 → IsGiven of_files files_old files_new of_out out_old out_new of_report report_old report_new asked (code_of s)
+  given_cause : (s : Status) → status_code s < 2 → IsGiven of_files files_old files_new of_out out_old out_new of_report report_old report_new asked (status_code s)
       → HasCause of_files files_old files_new of_out out_old out_new of_report report_old report_new asked s
   given_cause statuses.AllDone small given = given
   given_cause statuses.NotAllDone small given = given
@@ -153,8 +153,8 @@ module _ {F O E : Type 0} (of_files : FilesView F) (files_old files_new : F) (of
         first_read of_files both files_old files_new (files_of made.request) made.contents file
         (subst (λ a. slice_get (asked_files a) 0 ≡ Some file) made.is_asked at) made.read rejected
 
-    pub answers_given : (s : Status) → code_of s < 2 → Took of_out out_old out_new made.outcome.output → TookLines of_report report_old report_new made.outcome.told
-        → code_of s ≡ made.outcome.own → AnswersRequest of_files files_old files_new of_out out_old out_new of_report report_old report_new asked (code_of s)
+    pub answers_given : (s : Status) → status_code s < 2 → Took of_out out_old out_new made.outcome.output → TookLines of_report report_old report_new made.outcome.told
+        → status_code s ≡ made.outcome.own → AnswersRequest of_files files_old files_new of_out out_old out_new of_report report_old report_new asked (status_code s)
     answers_given s small output lines own = record {
       answered = s;
       status_is = refl;
@@ -176,14 +176,14 @@ module _ {F O E : Type 0} (of_files : FilesView F) (files_old files_new : F) (of
     }
 
     -- what is handed over answers the request
-    pub answers_handed : (own s : Status) → code_of own < 2 → code_of own ≡ made.outcome.own
+    pub answers_handed : (own s : Status) → status_code own < 2 → status_code own ≡ made.outcome.own
         → HandsOver of_out out_old out_new made.outcome.output of_report report_old report_new made.outcome.told own s
-        → AnswersRequest of_files files_old files_new of_out out_old out_new of_report report_old report_new asked (code_of s)
+        → AnswersRequest of_files files_old files_new of_out out_old out_new of_report report_old report_new asked (status_code s)
     answers_handed own s small is (inl h) =
-        subst (λ x. AnswersRequest of_files files_old files_new of_out out_old out_new of_report report_old report_new asked (code_of x)) (sym h.2)
+        subst (λ x. AnswersRequest of_files files_old files_new of_out out_old out_new of_report report_old report_new asked (status_code x)) (sym h.2)
         (answers_given own small h.0 h.1 is)
     answers_handed own s small is (inr h) =
-        subst (λ x. AnswersRequest of_files files_old files_new of_out out_old out_new of_report report_old report_new asked (code_of x)) (sym h.1)
+        subst (λ x. AnswersRequest of_files files_old files_new of_out out_old out_new of_report report_old report_new asked (status_code x)) (sym h.1)
         (answers_cut (omega (arith, small, is)) h.0)
 
     -- what lists of a trace come to, where there is no run, was told
@@ -230,7 +230,7 @@ module _ {F O E : Type 0} (of_files : FilesView F) (files_old files_new : F) (of
   -- a refusal that is told
   refused_of : (r : Refusal) → IsCauseOf IsUsable IsUnusable of_files files_old files_new (files_of request) r
       → HasCause of_files files_old files_new of_out out_old out_new of_report report_old report_new (Some request) (refusal_status r)
-      → AnswersRequest of_files files_old files_new of_out out_old out_new of_report report_old report_new (Some request) (code_of (refusal_status r))
+      → AnswersRequest of_files files_old files_new of_out out_old out_new of_report report_old report_new (Some request) (status_code (refusal_status r))
   refused_of r cause has = record {
     answered = refusal_status r;
     status_is = refl;
@@ -242,22 +242,22 @@ module _ {F O E : Type 0} (of_files : FilesView F) (files_old files_new : F) (of
   }
 
   pub answers_refused : (r : Refusal) → IsUnmadeOf of_files files_old files_new (files_of request) r → Refuses of_report report_old report_new r → out_new ≡ out_old
-      → AnswersRequest of_files files_old files_new of_out out_old out_new of_report report_old report_new (Some request) (code_of (refusal_status r))
+      → AnswersRequest of_files files_old files_new of_out out_old out_new of_report report_old report_new (Some request) (status_code (refusal_status r))
   answers_refused (refusals.Refused code line) (inl cause) told kept =
       refused_of (refusals.Refused code line) cause
       (record { request = request; is_asked = refl; within = within; refusal = refusals.Refused code line; answered_is = refl; cause = cause; output_kept = kept; report = told })
   answers_refused (refusals.Refused code line) (inr memory) told kept =
-      absurd (let n : 3 ≡ 7 = ap (λ r. code_of (refusal_status r)) memory.0 in omega arith)
+      absurd (let n : 3 ≡ 7 = ap (λ r. status_code (refusal_status r)) memory.0 in omega arith)
   answers_refused (refusals.TooLong subject) (inl cause) told kept =
       refused_of (refusals.TooLong subject) cause
       (record { request = request; is_asked = refl; within = within; refusal = refusals.TooLong subject; answered_is = refl; cause = cause; output_kept = kept; report = told })
   answers_refused (refusals.TooLong subject) (inr memory) told kept =
-      absurd (let n : 4 ≡ 7 = ap (λ r. code_of (refusal_status r)) memory.0 in omega arith)
+      absurd (let n : 4 ≡ 7 = ap (λ r. status_code (refusal_status r)) memory.0 in omega arith)
   answers_refused (refusals.ReadFault subject) (inl cause) told kept =
       refused_of (refusals.ReadFault subject) cause
       (record { request = request; is_asked = refl; within = within; refusal = refusals.ReadFault subject; answered_is = refl; cause = cause; output_kept = kept; report = told })
   answers_refused (refusals.ReadFault subject) (inr memory) told kept =
-      absurd (let n : 5 ≡ 7 = ap (λ r. code_of (refusal_status r)) memory.0 in omega arith)
+      absurd (let n : 5 ≡ 7 = ap (λ r. status_code (refusal_status r)) memory.0 in omega arith)
   answers_refused refusals.Memory (inl cause) told kept =
       answers_unmade of_files files_old files_new of_out out_old out_new of_report report_old report_new (Some request)
       (inr (inr (cause.place, cause.file, cause.ended))) kept told
@@ -268,19 +268,19 @@ module _ {F O E : Type 0} (of_files : FilesView F) (files_old files_new : F) (of
 
 module _ {F O E : Type 0} (of_files : FilesView F) (files_old files_new : F) (of_out : SinkView O) (out_old out_new : O)
     (of_report : SinkView E) (report_old report_new : E) (both : NeverUsableAndRefused) (job : Job) (within : IsWithin job) where
-  module _ (run : Run) (is : IsMadeOf of_files files_old files_new job run) (own : Status) (own_is : code_of own ≡ status run.ends.ends run.control) where
+  module _ (run : MadeRun) (is : IsMadeOf of_files files_old files_new job run) (own : Status) (own_is : status_code own ≡ status run.ends.ends run.control) where
     -- what is reported, by the layout and by the input
     abbrev told_of : List ℕ
     told_of = report is.is_run.made.activations run.layout.input_len run.ends run.control
 
-    abbrev made_run : IsMade of_files files_old files_new (Some (RunRequest job))
+    abbrev made_run : IsMade of_files files_old files_new (Some (Run job))
     made_run = record {
-      request = RunRequest job;
+      request = Run job;
       is_asked = refl;
       within = within;
       contents = is.text ∷ is.input ∷ [];
       read = is.read;
-      outcome = record { output = run.output.items; told = report is.is_run.made.activations run.layout.input_len run.ends run.control; own = code_of own };
+      outcome = record { output = run.output.items; told = report is.is_run.made.activations run.layout.input_len run.ends run.control; own = status_code own };
       is_outcome = record {
         text = is.text;
         run = record { control = is.is_run.made; input = is.input; ends = run.ends };
@@ -297,17 +297,17 @@ module _ {F O E : Type 0} (of_files : FilesView F) (files_old files_new : F) (of
     }
 
     pub answers_run : (s : Status) → ((text : List ℕ) → IsReportOf run text → HandsOver of_out out_old out_new run.output.items of_report report_old report_new text own s)
-        → AnswersRequest of_files files_old files_new of_out out_old out_new of_report report_old report_new (Some (RunRequest job)) (code_of s)
+        → AnswersRequest of_files files_old files_new of_out out_old out_new of_report report_old report_new (Some (Run job)) (status_code s)
     answers_run s hands =
-        answers_handed of_files files_old files_new of_out out_old out_new of_report report_old report_new (Some (RunRequest job)) both made_run own s
-        (choice_small _ (code_of own) own_is) refl
+        answers_handed of_files files_old files_new of_out out_old out_new of_report report_old report_new (Some (Run job)) both made_run own s
+        (choice_small _ (status_code own) own_is) refl
         (hands told_of (record { whole = is.is_run.whole; activations = is.is_run.made.activations; laid = is.is_run.laid; is_report = refl }))
 
 -- ---- the run of an object
 
 module _ {F O E : Type 0} (of_files : FilesView F) (files_old files_new : F) (of_out : SinkView O) (out_old out_new : O)
     (of_report : SinkView E) (report_old report_new : E) (both : NeverUsableAndRefused) (job : ExecJob) (within : IsExecWithin job) where
-  module _ (run : Run) (is : IsExecOf of_files files_old files_new job run) (own : Status) (own_is : code_of own ≡ status run.ends.ends run.control) where
+  module _ (run : MadeRun) (is : IsExecOf of_files files_old files_new job run) (own : Status) (own_is : status_code own ≡ status run.ends.ends run.control) where
     -- what is reported, by the layout and by the input
     abbrev lines_of : List ℕ
     lines_of = report is.is_run.made.activations run.layout.input_len run.ends run.control
@@ -319,7 +319,7 @@ module _ {F O E : Type 0} (of_files : FilesView F) (files_old files_new : F) (of
       within = within;
       contents = is.object ∷ is.input ∷ [];
       read = is.read;
-      outcome = record { output = run.output.items; told = report is.is_run.made.activations run.layout.input_len run.ends run.control; own = code_of own };
+      outcome = record { output = run.output.items; told = report is.is_run.made.activations run.layout.input_len run.ends run.control; own = status_code own };
       is_outcome = record {
         object = is.object;
         run = record { control = is.is_run.made; input = is.input; ends = run.ends };
@@ -337,10 +337,10 @@ module _ {F O E : Type 0} (of_files : FilesView F) (files_old files_new : F) (of
     }
 
     pub answers_exec : (s : Status) → ((text : List ℕ) → IsReportOf run text → HandsOver of_out out_old out_new run.output.items of_report report_old report_new text own s)
-        → AnswersRequest of_files files_old files_new of_out out_old out_new of_report report_old report_new (Some (Exec job)) (code_of s)
+        → AnswersRequest of_files files_old files_new of_out out_old out_new of_report report_old report_new (Some (Exec job)) (status_code s)
     answers_exec s hands =
         answers_handed of_files files_old files_new of_out out_old out_new of_report report_old report_new (Some (Exec job)) both made_exec own s
-        (choice_small _ (code_of own) own_is) refl
+        (choice_small _ (status_code own) own_is) refl
         (hands lines_of (record { whole = is.is_run.whole; activations = is.is_run.made.activations; laid = is.is_run.laid; is_report = refl }))
 
 -- ---- an object that is written
@@ -349,7 +349,7 @@ module _ {F O E : Type 0} (of_files : FilesView F) (files_old files_new : F) (of
     (of_report : SinkView E) (report_old report_new : E) (both : NeverUsableAndRefused) (job : CompileJob) where
   pub answers_compile : (object : List ℕ) → IsCompiledOf of_files files_old files_new job object → (s : Status)
       → HandsOver of_out out_old out_new object of_report report_old report_new [] statuses.AllDone s
-      → AnswersRequest of_files files_old files_new of_out out_old out_new of_report report_old report_new (Some (Compile job)) (code_of s)
+      → AnswersRequest of_files files_old files_new of_out out_old out_new of_report report_old report_new (Some (Compile job)) (status_code s)
   answers_compile object is s hands =
       answers_handed of_files files_old files_new of_out out_old out_new of_report report_old report_new (Some (Compile job)) both
       (record {
@@ -379,18 +379,18 @@ module _ {F O E : Type 0} (of_files : FilesView F) (files_old files_new : F) (of
     (of_report : SinkView E) (report_old report_new : E) (both : NeverUsableAndRefused) (job : ExplainJob) (within : IsExplainWithin job) where
   pub answers_explain : (explanation : Explanation) → IsExplainedOf of_files files_old files_new job explanation → (s : Status)
       → HandsOver of_out out_old out_new (string_bytes explanation.text) of_report report_old report_new [] explanation.status s
-      → AnswersRequest of_files files_old files_new of_out out_old out_new of_report report_old report_new (Some (Explain job)) (code_of s)
+      → AnswersRequest of_files files_old files_new of_out out_old out_new of_report report_old report_new (Some (Explain job)) (status_code s)
   answers_explain explanation is s hands =
       answers_handed of_files files_old files_new of_out out_old out_new of_report report_old report_new (Some (Explain job)) both
       (record { request = Explain job; is_asked = refl; within = within; contents = is.0; read = is.1; outcome = told_outcome explanation; is_outcome = is.2 })
-      explanation.status s (small_status is.2.explains.finding (code_of explanation.status) is.2.explains.own_is) refl hands
+      explanation.status s (small_status is.2.explains.finding (status_code explanation.status) is.2.explains.own_is) refl hands
 
 -- ---- a trace
 
 module _ {F O E : Type 0} (of_files : FilesView F) (files_old files_new : F) (of_out : SinkView O) (out_old out_new : O)
     (of_report : SinkView E) (report_old report_new : E) (both : NeverUsableAndRefused) (job : TraceJob) (within : IsTraceWithin job) where
-  module _ (traced : TracedRun) (is : IsTracedOf of_files files_old files_new job traced) (own : Status) (own_is : code_of own ≡ status traced.run.ends.ends traced.run.control) where
-    abbrev run : Run
+  module _ (traced : TracedRun) (is : IsTracedOf of_files files_old files_new job traced) (own : Status) (own_is : status_code own ≡ status traced.run.ends.ends traced.run.control) where
+    abbrev run : MadeRun
     run = traced.run
 
     abbrev of_run : IsRunOf job.task_budget job.control_budget is.made.program is.made.input run.output.items run.layout run.ends run.control
@@ -406,7 +406,7 @@ module _ {F O E : Type 0} (of_files : FilesView F) (files_old files_new : F) (of
       within = within;
       contents = is.made.text ∷ is.made.input ∷ [];
       read = is.made.read;
-      outcome = record { output = traced.text.items; told = report of_run.made.activations run.layout.input_len run.ends run.control; own = code_of own };
+      outcome = record { output = traced.text.items; told = report of_run.made.activations run.layout.input_len run.ends run.control; own = status_code own };
       is_outcome = record {
         text = is.made.text;
         run = record { control = of_run.made; input = is.made.input; ends = run.ends };
@@ -426,10 +426,10 @@ module _ {F O E : Type 0} (of_files : FilesView F) (files_old files_new : F) (of
     }
 
     pub answers_trace : (s : Status) → ((text : List ℕ) → IsReportOf run text → HandsOver of_out out_old out_new traced.text.items of_report report_old report_new text own s)
-        → AnswersRequest of_files files_old files_new of_out out_old out_new of_report report_old report_new (Some (Trace job)) (code_of s)
+        → AnswersRequest of_files files_old files_new of_out out_old out_new of_report report_old report_new (Some (Trace job)) (status_code s)
     answers_trace s hands =
         answers_handed of_files files_old files_new of_out out_old out_new of_report report_old report_new (Some (Trace job)) both made_trace own s
-        (choice_small _ (code_of own) own_is) refl
+        (choice_small _ (status_code own) own_is) refl
         (hands traced_told (record { whole = of_run.whole; activations = of_run.made.activations; laid = of_run.laid; is_report = refl }))
 
 -- ---- a run by the lists of a trace
@@ -465,7 +465,7 @@ module _ {F O E : Type 0} (of_files : FilesView F) (files_old files_new : F) (of
   }
 
   -- a run is given of lists that are whole
-  module _ (run : Run) (is : IsReplayedOf of_files files_old files_new job (Whole run)) (own : Status) (own_is : code_of own ≡ status run.ends.ends run.control) where
+  module _ (run : MadeRun) (is : IsReplayedOf of_files files_old files_new job (Whole run)) (own : Status) (own_is : status_code own ≡ status run.ends.ends run.control) where
     abbrev of_whole : IsRunOf job.task_budget job.control_budget is.program is.input run.output.items run.layout run.ends run.control
     of_whole = is.comes_to.is_handed_back.1
 
@@ -473,7 +473,7 @@ module _ {F O E : Type 0} (of_files : FilesView F) (files_old files_new : F) (of
     whole_told = report of_whole.made.activations run.layout.input_len run.ends run.control
 
     abbrev whole_outcome : JobOutcome
-    whole_outcome = record { output = run.output.items; told = whole_told; own = code_of own }
+    whole_outcome = record { output = run.output.items; told = whole_told; own = status_code own }
 
     -- the control program creates the same over the plan and in the run
     same_made : of_whole.made ≡ is.comes_to.made
@@ -493,11 +493,11 @@ module _ {F O E : Type 0} (of_files : FilesView F) (files_old files_new : F) (of
         )
 
     pub answers_whole : (s : Status) → ((text : List ℕ) → IsReportOf run text → HandsOver of_out out_old out_new run.output.items of_report report_old report_new text own s)
-        → AnswersRequest of_files files_old files_new of_out out_old out_new of_report report_old report_new (Some (ReplayRequest job)) (code_of s)
+        → AnswersRequest of_files files_old files_new of_out out_old out_new of_report report_old report_new (Some (ReplayRequest job)) (status_code s)
     answers_whole s hands =
         answers_handed of_files files_old files_new of_out out_old out_new of_report report_old report_new (Some (ReplayRequest job)) both
         (made_replay (Whole run) is whole_outcome whole_gives) own s
-        (choice_small _ (code_of own) own_is) refl
+        (choice_small _ (status_code own) own_is) refl
         (hands whole_told (record { whole = of_whole.whole; activations = of_whole.made.activations; laid = of_whole.laid; is_report = refl }))
 
   -- the line of an answer that isn't whole
@@ -523,29 +523,29 @@ module _ {F O E : Type 0} (of_files : FilesView F) (files_old files_new : F) (of
 module _ {F O E : Type 0} (of_files : FilesView F) (files : F) (of_out : SinkView O) (out_old out_new : O) (of_report : SinkView E) (report_old report_new : E)
     (both : NeverUsableAndRefused) (job : GenJob) (within : IsGenWithin job) where
   pub answers_gen : (s : Status) → AnswersGen of_out out_old out_new of_report report_old report_new job s
-      → AnswersRequest of_files files files of_out out_old out_new of_report report_old report_new (Some (Gen job)) (code_of s)
+      → AnswersRequest of_files files files of_out out_old out_new of_report report_old report_new (Some (Gen job)) (status_code s)
   answers_gen s (inl h) =
       answers_handed of_files files files of_out out_old out_new of_report report_old report_new (Some (Gen job)) both
       (record { request = Gen job; is_asked = refl; within = within; contents = []; read = refl; outcome = h.0; is_outcome = h.1 })
       statuses.AllDone s (omega arith) (sym h.1.status_is) h.2
   answers_gen s (inr h) =
-      subst (λ x. AnswersRequest of_files files files of_out out_old out_new of_report report_old report_new (Some (Gen job)) (code_of x)) (sym h.0)
+      subst (λ x. AnswersRequest of_files files files of_out out_old out_new of_report report_old report_new (Some (Gen job)) (status_code x)) (sym h.0)
       (answers_unmade of_files files files of_out out_old out_new of_report report_old report_new (Some (Gen job)) (inl refl) h.1 h.2)
 
 -- a run that was made has a report
-pub reported : {F : Type 0} (view : FilesView F) (old new : F) (job : Job) (run : Run) → IsMadeOf view old new job run → (text : List ℕ) × IsReportOf run text
+pub reported : {F : Type 0} (view : FilesView F) (old new : F) (job : Job) (run : MadeRun) → IsMadeOf view old new job run → (text : List ℕ) × IsReportOf run text
 reported view old new job run is = (
   report is.is_run.made.activations run.layout.input_len run.ends run.control,
   record { whole = is.is_run.whole; activations = is.is_run.made.activations; laid = is.is_run.laid; is_report = refl },
 )
 
-pub exec_reported : {F : Type 0} (view : FilesView F) (old new : F) (job : ExecJob) (run : Run) → IsExecOf view old new job run → (text : List ℕ) × IsReportOf run text
+pub exec_reported : {F : Type 0} (view : FilesView F) (old new : F) (job : ExecJob) (run : MadeRun) → IsExecOf view old new job run → (text : List ℕ) × IsReportOf run text
 exec_reported view old new job run is = (
   report is.is_run.made.activations run.layout.input_len run.ends run.control,
   record { whole = is.is_run.whole; activations = is.is_run.made.activations; laid = is.is_run.laid; is_report = refl },
 )
 
-pub replay_reported : {F : Type 0} (view : FilesView F) (old new : F) (job : ReplayJob) (run : Run) → IsReplayedOf view old new job (Whole run)
+pub replay_reported : {F : Type 0} (view : FilesView F) (old new : F) (job : ReplayJob) (run : MadeRun) → IsReplayedOf view old new job (Whole run)
     → (text : List ℕ) × IsReportOf run text
 replay_reported view old new job run is =
     let ran = is.comes_to.is_handed_back.1 in (

@@ -7,7 +7,7 @@ use Rattle.osrun_core_jobs.specs.Files.{JobFile}
 use Rattle.osrun_core_jobs.specs.FileLoad.{IsLoaded, IsLoadRefusal}
 use Rattle.osrun_core_jobs.specs.Reading.{IsFailed, IsLeft, Opened, WasRead}
 use Rattle.osrun_core_jobs.specs.Refusal.{refusal_status}
-use Rattle.osrun_core_jobs.specs.Status.{code_of}
+use Rattle.osrun_core_jobs.specs.Status.{status_code}
 use Rattle.osrun_core_jobs.specs.declared.refusal.Refusal.{Refusal}
 use Rattle.osrun_core_jobs.specs.declared.refusal.Refusal.TheVariants as refusals
 use Rattle.osrun_core_jobs.specs.declared.status.Status.TheVariants as statuses
@@ -22,7 +22,7 @@ module _ {F : Type 0} (view : FilesView F) (old new : F) (subject : Subject) (na
     named = h.0;
     too_many = h.1;
     held = h.2;
-    no_fault = none (λ e. let n : 4 ≡ 5 = ap code_of e in omega arith);
+    no_fault = none (λ e. let n : 4 ≡ 5 = ap status_code e in omega arith);
   }
   not_loaded (refusals.ReadFault s) h none = record { named = h.0; within = h.1; fault = h.2 }
   not_loaded refusals.Memory h none = tt
@@ -49,7 +49,7 @@ pub refused_bytes : {F : Type 0} (view : FilesView F) (old new : F) (subject : S
     → IsFailed IsUnusable view old new (record { subject = subject; name = name }) r
 refused_bytes view old new subject name text refusals.Memory loaded faults why = tt
 refused_bytes view old new subject name text (refusals.Refused code line) loaded faults (inl is) =
-    absurd (let n : 3 ≡ 7 = ap (λ r. code_of (refusal_status r)) is in omega arith)
+    absurd (let n : 3 ≡ 7 = ap (λ r. status_code (refusal_status r)) is in omega arith)
 refused_bytes view old new subject name text (refusals.Refused code line) loaded faults (inr why) = record {
   bytes = text;
   read = loaded.read;
@@ -59,10 +59,10 @@ refused_bytes view old new subject name text (refusals.Refused code line) loaded
   no_fault = faults;
 }
 refused_bytes view old new subject name text (refusals.TooLong s) loaded faults (inl is) =
-    absurd (let n : 4 ≡ 7 = ap (λ r. code_of (refusal_status r)) is in omega arith)
+    absurd (let n : 4 ≡ 7 = ap (λ r. status_code (refusal_status r)) is in omega arith)
 refused_bytes view old new subject name text (refusals.TooLong s) loaded faults (inr why) = absurd why
 refused_bytes view old new subject name text (refusals.ReadFault s) loaded faults (inl is) =
-    absurd (let n : 5 ≡ 7 = ap (λ r. code_of (refusal_status r)) is in omega arith)
+    absurd (let n : 5 ≡ 7 = ap (λ r. status_code (refusal_status r)) is in omega arith)
 refused_bytes view old new subject name text (refusals.ReadFault s) loaded faults (inr why) = absurd why
 
 -- one more file was opened

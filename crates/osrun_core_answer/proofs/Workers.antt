@@ -26,7 +26,7 @@ use Rattle.osrun_core_answer.specs.Gen.{four_lines, gen_budget, gen_lines}
 use Rattle.osrun_core_answer.specs.Laws.{IsTold, ObjectsRunAsTexts, SameButForWorkers, TracesReportAsRuns, TracesReportTheSame, WorkersChangeNothing}
 use Rattle.osrun_core_answer.specs.JobOutcome.{IsOutcome, IsOutcomeOfExec, IsOutcomeOfExplain, IsOutcomeOfGen, IsOutcomeOfRun, IsOutcomeOfTrace, JobOutcome}
 use Rattle.osrun_core_jobs.specs.Files.{JobFile, files_of}
-use Rattle.osrun_core_jobs.specs.Jobs.{Compile, Exec, ExecJob, Explain, ExplainJob, Gen, GenJob, Job, Replay, Request, Run as RunRequest, Trace, TraceJob, traced_run}
+use Rattle.osrun_core_jobs.specs.Jobs.{Compile, Exec, ExecJob, Explain, ExplainJob, Gen, GenJob, Job, Replay, Request, Run, Trace, TraceJob, traced_run}
 use Rattle.osrun_core_jobs.specs.Reading.{WereRead}
 use Rattle.osrun_core_run.specs.Code.{IsCodeOf}
 use Rattle.osrun_core_run.specs.Refusal.{IsUsable}
@@ -52,10 +52,10 @@ is_run_of p task_budget control_budget run control_is ends_are =
 -- and the run of a code
 abbrev exec_run : Parts → List ℕ → (task_budget control_budget : ℕ) → ProgramRun
 exec_run code input task_budget control_budget =
-    let made = machine.control code (length input) control_budget in
+    let made = machine.main_control code (length input) control_budget in
     record { control = made; input = input; ends = code_ends code made.activations input task_budget }
 
-is_exec_run : (code : Parts) (task_budget control_budget : ℕ) (run : ProgramRun) → run.control ≡ machine.control code (length run.input) control_budget
+is_exec_run : (code : Parts) (task_budget control_budget : ℕ) (run : ProgramRun) → run.control ≡ machine.main_control code (length run.input) control_budget
     → run.ends ≡ code_ends code run.control.activations run.input task_budget → run ≡ exec_run code run.input task_budget control_budget
 is_exec_run code task_budget control_budget run control_is ends_are =
     ap (λ (e : Ends). record { control = run.control; input = run.input; ends = e }) ends_are
@@ -122,7 +122,7 @@ untraced contents trace traced o = record {
 }
 
 module _ (one : OneProgram) (reading : OneReading) (walks : OneWalk) where
-  of_runs : (contents : List (List ℕ)) (job other : Job) (outcome another : JobOutcome) → SameButForWorkers (RunRequest job) (RunRequest other)
+  of_runs : (contents : List (List ℕ)) (job other : Job) (outcome another : JobOutcome) → SameButForWorkers (Run job) (Run other)
       → IsOutcomeOfRun contents job outcome → IsOutcomeOfRun contents other another → outcome ≡ another
   of_runs contents job other outcome another same o q =
       let contents_same = sym o.contents_are ∙ q.contents_are in
@@ -189,33 +189,33 @@ module _ (one : OneProgram) (reading : OneReading) (walks : OneWalk) where
           record { output = four_lines (record { seed = seed; blocks = blocks; workers = 1 }) run.input (written run.ends.output) (status run.ends.ends run.control.end); told = []; own = 0 }
 
   pub change_nothing : WorkersChangeNothing
-  change_nothing contents (RunRequest job) (RunRequest other) outcome another same o q = of_runs contents job other outcome another same o q
+  change_nothing contents (Run job) (Run other) outcome another same o q = of_runs contents job other outcome another same o q
   change_nothing contents (Gen job) (Gen other) outcome another same o q = of_gens contents job other outcome another same o q
   change_nothing contents (Exec job) (Exec other) outcome another same o q = of_execs contents job other outcome another same o q
   change_nothing contents (Explain job) (Explain other) outcome another same o q = of_explains contents job other outcome another same o q
-  change_nothing contents (RunRequest job) (Gen other) outcome another same o q = absurd same
-  change_nothing contents (RunRequest job) (Compile other) outcome another same o q = absurd same
-  change_nothing contents (RunRequest job) (Exec other) outcome another same o q = absurd same
-  change_nothing contents (Gen job) (RunRequest other) outcome another same o q = absurd same
+  change_nothing contents (Run job) (Gen other) outcome another same o q = absurd same
+  change_nothing contents (Run job) (Compile other) outcome another same o q = absurd same
+  change_nothing contents (Run job) (Exec other) outcome another same o q = absurd same
+  change_nothing contents (Gen job) (Run other) outcome another same o q = absurd same
   change_nothing contents (Gen job) (Compile other) outcome another same o q = absurd same
   change_nothing contents (Gen job) (Exec other) outcome another same o q = absurd same
-  change_nothing contents (Compile job) (RunRequest other) outcome another same o q = absurd same
+  change_nothing contents (Compile job) (Run other) outcome another same o q = absurd same
   change_nothing contents (Compile job) (Gen other) outcome another same o q = absurd same
   change_nothing contents (Compile job) (Compile other) outcome another same o q = absurd same
   change_nothing contents (Compile job) (Exec other) outcome another same o q = absurd same
-  change_nothing contents (Exec job) (RunRequest other) outcome another same o q = absurd same
+  change_nothing contents (Exec job) (Run other) outcome another same o q = absurd same
   change_nothing contents (Exec job) (Gen other) outcome another same o q = absurd same
   change_nothing contents (Exec job) (Compile other) outcome another same o q = absurd same
-  change_nothing contents (RunRequest job) (Explain other) outcome another same o q = absurd same
+  change_nothing contents (Run job) (Explain other) outcome another same o q = absurd same
   change_nothing contents (Gen job) (Explain other) outcome another same o q = absurd same
   change_nothing contents (Compile job) (Explain other) outcome another same o q = absurd same
   change_nothing contents (Exec job) (Explain other) outcome another same o q = absurd same
-  change_nothing contents (Explain job) (RunRequest other) outcome another same o q = absurd same
+  change_nothing contents (Explain job) (Run other) outcome another same o q = absurd same
   change_nothing contents (Explain job) (Gen other) outcome another same o q = absurd same
   change_nothing contents (Explain job) (Compile other) outcome another same o q = absurd same
   change_nothing contents (Explain job) (Exec other) outcome another same o q = absurd same
-  change_nothing contents (RunRequest job) (Trace other) outcome another same o q = absurd same
-  change_nothing contents (RunRequest job) (Replay other) outcome another same o q = absurd same
+  change_nothing contents (Run job) (Trace other) outcome another same o q = absurd same
+  change_nothing contents (Run job) (Replay other) outcome another same o q = absurd same
   change_nothing contents (Gen job) (Trace other) outcome another same o q = absurd same
   change_nothing contents (Gen job) (Replay other) outcome another same o q = absurd same
   change_nothing contents (Compile job) (Trace other) outcome another same o q = absurd same
@@ -224,14 +224,14 @@ module _ (one : OneProgram) (reading : OneReading) (walks : OneWalk) where
   change_nothing contents (Exec job) (Replay other) outcome another same o q = absurd same
   change_nothing contents (Explain job) (Trace other) outcome another same o q = absurd same
   change_nothing contents (Explain job) (Replay other) outcome another same o q = absurd same
-  change_nothing contents (Trace job) (RunRequest other) outcome another same o q = absurd same
+  change_nothing contents (Trace job) (Run other) outcome another same o q = absurd same
   change_nothing contents (Trace job) (Gen other) outcome another same o q = absurd same
   change_nothing contents (Trace job) (Compile other) outcome another same o q = absurd same
   change_nothing contents (Trace job) (Exec other) outcome another same o q = absurd same
   change_nothing contents (Trace job) (Explain other) outcome another same o q = absurd same
   change_nothing contents (Trace job) (Trace other) outcome another same o q = absurd same
   change_nothing contents (Trace job) (Replay other) outcome another same o q = absurd same
-  change_nothing contents (Replay job) (RunRequest other) outcome another same o q = absurd same
+  change_nothing contents (Replay job) (Run other) outcome another same o q = absurd same
   change_nothing contents (Replay job) (Gen other) outcome another same o q = absurd same
   change_nothing contents (Replay job) (Compile other) outcome another same o q = absurd same
   change_nothing contents (Replay job) (Exec other) outcome another same o q = absurd same
@@ -294,9 +294,9 @@ contents_told view old new (file ∷ files) (bytes ∷ contents) read told =
 
 -- requests that differ in their workers have the same files
 same_files : (request other : Request) → SameButForWorkers request other → files_of request ≡ files_of other
-same_files (RunRequest job) (RunRequest other) same =
-    ap (λ name. files_of (RunRequest (record job { program = name }))) same.0
-    ∙ ap (λ name. files_of (RunRequest (record job { program = other.program; input = name }))) same.1
+same_files (Run job) (Run other) same =
+    ap (λ name. files_of (Run (record job { program = name }))) same.0
+    ∙ ap (λ name. files_of (Run (record job { program = other.program; input = name }))) same.1
 same_files (Gen job) (Gen other) same = refl
 same_files (Exec job) (Exec other) same =
     ap (λ name. files_of (Exec (record job { object = name }))) same.0
@@ -304,29 +304,29 @@ same_files (Exec job) (Exec other) same =
 same_files (Explain job) (Explain other) same =
     ap (λ name. files_of (Explain (record job { program = name }))) same.0
     ∙ ap (λ name. files_of (Explain (record job { program = other.program; input = name }))) same.1
-same_files (RunRequest job) (Gen other) same = absurd same
-same_files (RunRequest job) (Compile other) same = absurd same
-same_files (RunRequest job) (Exec other) same = absurd same
-same_files (Gen job) (RunRequest other) same = absurd same
+same_files (Run job) (Gen other) same = absurd same
+same_files (Run job) (Compile other) same = absurd same
+same_files (Run job) (Exec other) same = absurd same
+same_files (Gen job) (Run other) same = absurd same
 same_files (Gen job) (Compile other) same = absurd same
 same_files (Gen job) (Exec other) same = absurd same
-same_files (Compile job) (RunRequest other) same = absurd same
+same_files (Compile job) (Run other) same = absurd same
 same_files (Compile job) (Gen other) same = absurd same
 same_files (Compile job) (Compile other) same = absurd same
 same_files (Compile job) (Exec other) same = absurd same
-same_files (Exec job) (RunRequest other) same = absurd same
+same_files (Exec job) (Run other) same = absurd same
 same_files (Exec job) (Gen other) same = absurd same
 same_files (Exec job) (Compile other) same = absurd same
-same_files (RunRequest job) (Explain other) same = absurd same
+same_files (Run job) (Explain other) same = absurd same
 same_files (Gen job) (Explain other) same = absurd same
 same_files (Compile job) (Explain other) same = absurd same
 same_files (Exec job) (Explain other) same = absurd same
-same_files (Explain job) (RunRequest other) same = absurd same
+same_files (Explain job) (Run other) same = absurd same
 same_files (Explain job) (Gen other) same = absurd same
 same_files (Explain job) (Compile other) same = absurd same
 same_files (Explain job) (Exec other) same = absurd same
-same_files (RunRequest job) (Trace other) same = absurd same
-same_files (RunRequest job) (Replay other) same = absurd same
+same_files (Run job) (Trace other) same = absurd same
+same_files (Run job) (Replay other) same = absurd same
 same_files (Gen job) (Trace other) same = absurd same
 same_files (Gen job) (Replay other) same = absurd same
 same_files (Compile job) (Trace other) same = absurd same
@@ -335,14 +335,14 @@ same_files (Exec job) (Trace other) same = absurd same
 same_files (Exec job) (Replay other) same = absurd same
 same_files (Explain job) (Trace other) same = absurd same
 same_files (Explain job) (Replay other) same = absurd same
-same_files (Trace job) (RunRequest other) same = absurd same
+same_files (Trace job) (Run other) same = absurd same
 same_files (Trace job) (Gen other) same = absurd same
 same_files (Trace job) (Compile other) same = absurd same
 same_files (Trace job) (Exec other) same = absurd same
 same_files (Trace job) (Explain other) same = absurd same
 same_files (Trace job) (Trace other) same = absurd same
 same_files (Trace job) (Replay other) same = absurd same
-same_files (Replay job) (RunRequest other) same = absurd same
+same_files (Replay job) (Run other) same = absurd same
 same_files (Replay job) (Gen other) same = absurd same
 same_files (Replay job) (Compile other) same = absurd same
 same_files (Replay job) (Exec other) same = absurd same

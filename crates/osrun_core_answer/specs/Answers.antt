@@ -8,7 +8,7 @@ use Rattle.osrun_core_jobs.specs.Files.{JobFile, files_of}
 use Rattle.osrun_core_jobs.specs.Jobs.{IsRequestWithin, Request}
 use Rattle.osrun_core_jobs.specs.Reading.{IsCauseOf, IsReadable, IsRejected, ReadsInOrder, WereRead}
 use Rattle.osrun_core_jobs.specs.Refusal.{refusal_line, refusal_status, usage_line}
-use Rattle.osrun_core_jobs.specs.Status.{code_of}
+use Rattle.osrun_core_jobs.specs.Status.{status_code}
 use Rattle.osrun_core_jobs.specs.Telling.{IsUndelivered, Tells, Took, TookLines}
 use Rattle.osrun_core_jobs.specs.declared.refusal.Refusal.{Refusal}
 use Rattle.osrun_core_jobs.specs.declared.status.Status.{Status}
@@ -42,7 +42,7 @@ pub record IsGiven {F O E : Type 0} (of_files : FilesView F) (files_old files_ne
 pub record IsCut {F O E : Type 0} (of_files : FilesView F) (files_old files_new : F) (of_out : SinkView O) (out_old out_new : O)
     (of_report : SinkView E) (report_old report_new : E) (asked : Option Request) : Type 0 where
   pub made : IsMade of_files files_old files_new asked
-  pub own : made.outcome.own < code_of statuses.BadWords
+  pub own : made.outcome.own < status_code statuses.BadWords
   pub undelivered : IsUndelivered of_out out_old out_new made.outcome.output of_report report_old report_new made.outcome.told
 
 -- 2: nothing is asked for, which is told; no file was touched.
@@ -54,7 +54,7 @@ pub record IsUnasked {F O E : Type 0} (files_old files_new : F) (out_old out_new
   pub report : Tells of_report report_old report_new usage_line
 
 -- 3, 4 and 5: one of the files is the cause, which is told; nothing was written on the output.
-pub record IsRefused {F O E : Type 0} (of_files : FilesView F) (files_old files_new : F) (out_old out_new : O)
+pub record IsFileRefused {F O E : Type 0} (of_files : FilesView F) (files_old files_new : F) (out_old out_new : O)
     (of_report : SinkView E) (report_old report_new : E) (asked : Option Request) (answered : Status) : Type 0 where
   pub request : Request
   pub is_asked : asked ≡ Some request
@@ -75,7 +75,7 @@ pub record IsUnmade {O E : Type 0} (out_old out_new : O) (report_old report_new 
 pub record IsNotReplayed {F O E : Type 0} (of_files : FilesView F) (files_old files_new : F) (out_old out_new : O)
     (of_report : SinkView E) (report_old report_new : E) (asked : Option Request) : Type 0 where
   pub made : IsMade of_files files_old files_new asked
-  pub own : made.outcome.own ≡ code_of statuses.NotReplayed
+  pub own : made.outcome.own ≡ status_code statuses.NotReplayed
   pub output_kept : out_new ≡ out_old
   pub report : Tells of_report report_old report_new made.outcome.told
 
@@ -83,17 +83,17 @@ pub record IsNotReplayed {F O E : Type 0} (of_files : FilesView F) (files_old fi
 abbrev pub HasCause : {F O E : Type 0} → FilesView F → F → F → SinkView O → O → O → SinkView E → E → E → Option Request → Status
     → Type 0
 HasCause of_files files_old files_new of_out out_old out_new of_report report_old report_new asked statuses.AllDone =
-    IsGiven of_files files_old files_new of_out out_old out_new of_report report_old report_new asked (code_of statuses.AllDone)
+    IsGiven of_files files_old files_new of_out out_old out_new of_report report_old report_new asked (status_code statuses.AllDone)
 HasCause of_files files_old files_new of_out out_old out_new of_report report_old report_new asked statuses.NotAllDone =
-    IsGiven of_files files_old files_new of_out out_old out_new of_report report_old report_new asked (code_of statuses.NotAllDone)
+    IsGiven of_files files_old files_new of_out out_old out_new of_report report_old report_new asked (status_code statuses.NotAllDone)
 HasCause of_files files_old files_new of_out out_old out_new of_report report_old report_new asked statuses.BadWords =
     IsUnasked files_old files_new out_old out_new of_report report_old report_new asked
 HasCause of_files files_old files_new of_out out_old out_new of_report report_old report_new asked statuses.Refused =
-    IsRefused of_files files_old files_new out_old out_new of_report report_old report_new asked statuses.Refused
+    IsFileRefused of_files files_old files_new out_old out_new of_report report_old report_new asked statuses.Refused
 HasCause of_files files_old files_new of_out out_old out_new of_report report_old report_new asked statuses.TooLong =
-    IsRefused of_files files_old files_new out_old out_new of_report report_old report_new asked statuses.TooLong
+    IsFileRefused of_files files_old files_new out_old out_new of_report report_old report_new asked statuses.TooLong
 HasCause of_files files_old files_new of_out out_old out_new of_report report_old report_new asked statuses.ReadFault =
-    IsRefused of_files files_old files_new out_old out_new of_report report_old report_new asked statuses.ReadFault
+    IsFileRefused of_files files_old files_new out_old out_new of_report report_old report_new asked statuses.ReadFault
 HasCause of_files files_old files_new of_out out_old out_new of_report report_old report_new asked statuses.WriteFault =
     IsCut of_files files_old files_new of_out out_old out_new of_report report_old report_new asked
 HasCause of_files files_old files_new of_out out_old out_new of_report report_old report_new asked statuses.NoMemory =
@@ -106,14 +106,14 @@ pub record AnswersRequest {F O E : Type 0} (of_files : FilesView F) (files_old f
     (of_report : SinkView E) (report_old report_new : E) (asked : Option Request) (status : ℕ) : Type 0 where
   -- The status is one of the nine,
   pub answered : Status
-  pub status_is : status ≡ code_of answered
+  pub status_is : status ≡ status_code answered
   -- for the cause that is its own, with what the two sinks took.
   pub cause : HasCause of_files files_old files_new of_out out_old out_new of_report report_old report_new asked answered
   -- A file was opened only after those before it were read whole, and were usable.
   pub reads : ReadsInOrder IsUsable of_files files_old files_new (asked_files asked)
   -- Completeness: where all files are told, within their limits and usable, none is told to be the cause but by a fault.
   pub complete : (request : Request) → asked ≡ Some request → All (IsReadable IsUsable (of_files.holds files_old)) (files_of request)
-      → (status < code_of statuses.BadWords) ⊎ (code_of statuses.ReadFault ≤ status)
+      → (status < status_code statuses.BadWords) ⊎ (status_code statuses.ReadFault ≤ status)
   -- Where the first file is told and within its limit, and its bytes are refused, that is told, unless a read failed or memory ran out.
   pub rejected : (file : JobFile) → slice_get (asked_files asked) 0 ≡ Some file → IsRejected IsUnusable (of_files.holds files_old) file
-      → (status ≡ code_of statuses.Refused) ⊎ ((status ≡ code_of statuses.ReadFault) ⊎ (status ≡ code_of statuses.NoMemory))
+      → (status ≡ status_code statuses.Refused) ⊎ ((status ≡ status_code statuses.ReadFault) ⊎ (status ≡ status_code statuses.NoMemory))

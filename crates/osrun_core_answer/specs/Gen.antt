@@ -2,7 +2,7 @@
 use Rattle.std.specs.Prelude.{◌≡◌, ℕ, ◌*◌, List, ◌++◌, codes, length, sum}
 use Rattle.std.specs.Fmt.{decimal}
 use Rattle.cddf_meaning.specs.Control.{control}
-use Rattle.collector.specs.Line.{line}
+use Rattle.os_io.specs.Lines.{ended_line}
 use Rattle.collector.specs.Status.{status}
 use Rattle.collector.specs.Written.{written}
 use Rattle.front_end.specs.Texts.{IsAccepted}
@@ -26,15 +26,15 @@ pub record IsRunOfGen (job : GenJob) (run : ProgramRun) : Type 0 where
 
 -- of some bytes: how many there are, and the sum of their values
 abbrev pub counted_line : (name bytes : List ℕ) → List ℕ
-counted_line name bytes = line (name ++ codes " " ++ decimal (length bytes) ++ codes " sum " ++ decimal (sum bytes))
+counted_line name bytes = ended_line (name ++ codes " " ++ decimal (length bytes) ++ codes " sum " ++ decimal (sum bytes))
 
 -- The four lines: what was asked for, the bytes that were made, those that the run writes, and its status.
 abbrev pub four_lines : GenJob → (input output : List ℕ) → (own : ℕ) → List ℕ
 four_lines job input output own =
-    line (codes "seed " ++ decimal job.seed ++ codes " blocks " ++ decimal job.blocks)
+    ended_line (codes "seed " ++ decimal job.seed ++ codes " blocks " ++ decimal job.blocks)
     ++ counted_line (codes "input") input
     ++ counted_line (codes "output") output
-    ++ line (codes "status " ++ decimal own)
+    ++ ended_line (codes "status " ++ decimal own)
 
 -- what is written of a run
 abbrev pub gen_lines : GenJob → ProgramRun → List ℕ

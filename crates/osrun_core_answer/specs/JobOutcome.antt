@@ -18,7 +18,7 @@ use Rattle.osrun_core_answer.specs.Explained.{Explains}
 use Rattle.osrun_core_answer.specs.Gen.{IsRunOfGen, gen_lines}
 use Rattle.osrun_core_jobs.specs.Jobs.{Compile, CompileJob, Exec, ExecJob, Explain, ExplainJob, Gen}
 use Rattle.osrun_core_jobs.specs.Jobs.{GenJob, Job, Replay, ReplayJob, Request, Run, Trace, TraceJob}
-use Rattle.osrun_core_jobs.specs.Status.{code_of}
+use Rattle.osrun_core_jobs.specs.Status.{status_code}
 use Rattle.osrun_core_jobs.specs.declared.status.Status.TheVariants as statuses
 use Rattle.osrun_core_run.specs.Code.{IsCodeOf, IsObjectOf}
 use Rattle.osrun_core_run.specs.Replay.{IsReplayOf}
@@ -56,7 +56,7 @@ pub record IsOutcomeOfGen (contents : List (List ℕ)) (job : GenJob) (outcome :
   pub is_run : IsRunOfGen job run
   pub output_is : outcome.output ≡ gen_lines job run
   pub report_is : outcome.told ≡ []
-  pub status_is : outcome.own ≡ code_of statuses.AllDone
+  pub status_is : outcome.own ≡ status_code statuses.AllDone
 
 -- Of `compile`: the file's bytes are accepted as a program, and the output is the object of a code of it. Which one of its codes
 -- that is isn't said. There is no report, and the status is 0.
@@ -69,7 +69,7 @@ pub record IsOutcomeOfCompile (contents : List (List ℕ)) (job : CompileJob) (o
   pub is_code : IsCodeOf code program
   pub is_object : Spells outcome.output code
   pub report_is : outcome.told ≡ []
-  pub status_is : outcome.own ≡ code_of statuses.AllDone
+  pub status_is : outcome.own ≡ status_code statuses.AllDone
 
 -- Of `exec`: the first file's bytes are the object of a valid code, and the run is that of the code on the machine over the
 -- second one's bytes, with the job's budgets. Each activation that its `main` creates fits the code. Its output, its report and its
@@ -80,7 +80,7 @@ pub record IsOutcomeOfExec (contents : List (List ℕ)) (job : ExecJob) (outcome
   pub contents_are : contents ≡ object ∷ run.input ∷ []
   pub code : Parts
   pub is_object : IsObjectOf object code
-  pub control_is : run.control ≡ machine.control code (length run.input) job.control_budget
+  pub control_is : run.control ≡ machine.main_control code (length run.input) job.control_budget
   pub fit : All (Fits code) run.control.activations
   pub ends_are : run.ends ≡ code_ends code run.control.activations run.input job.task_budget
   pub output_is : outcome.output ≡ written run.ends.output
@@ -128,7 +128,7 @@ pub record GivesRun (run : ProgramRun) (outcome : JobOutcome) : Type 0 where
 pub record GivesLine (made : Control) (plan : Plan) (answer : Replayed) (outcome : JobOutcome) : Type 0 where
   pub output_is : outcome.output ≡ []
   pub is_line : IsReplayLine plan made.activations answer outcome.told
-  pub status_is : outcome.own ≡ code_of statuses.NotReplayed
+  pub status_is : outcome.own ≡ status_code statuses.NotReplayed
 
 -- What is meant to be given by the answer about the lists of a trace: where they are whole, the run of the program, and else the line.
 abbrev pub GivesReplay : (program : ProgramTree) → Control → (input : List ℕ) → (task_budget : ℕ) → Plan → Replayed → JobOutcome → Type 0

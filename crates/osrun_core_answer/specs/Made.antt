@@ -16,9 +16,9 @@ use Rattle.os_object.specs.Object.{Spells}
 use Rattle.osrun_core_jobs.specs.Files.{JobFile, files_of}
 use Rattle.osrun_core_jobs.specs.HandsOver.{HandsOver}
 use Rattle.osrun_core_jobs.specs.Jobs.{Compile, CompileJob, Exec, ExecJob, Explain, ExplainJob, Gen, GenJob, Job}
-use Rattle.osrun_core_jobs.specs.Jobs.{Replay as ReplayRequest, ReplayJob, Run as RunRequest, Trace, TraceJob, traced_run}
+use Rattle.osrun_core_jobs.specs.Jobs.{Replay as ReplayRequest, ReplayJob, Run, Trace, TraceJob, traced_run}
 use Rattle.osrun_core_jobs.specs.Reading.{IsCauseOf, IsFailed, Opened, ReadsInOrder, WasRead, WereRead}
-use Rattle.osrun_core_jobs.specs.Status.{code_of}
+use Rattle.osrun_core_jobs.specs.Status.{status_code}
 use Rattle.osrun_core_jobs.specs.declared.refusal.Refusal.{Refusal}
 use Rattle.osrun_core_jobs.specs.declared.refusal.Refusal.TheVariants as refusals
 use Rattle.osrun_core_jobs.specs.declared.status.Status.{Status}
@@ -28,7 +28,7 @@ use Rattle.osrun_core_run.specs.Code.{IsCodeOf, IsObjectOf}
 use Rattle.osrun_core_run.specs.Refusal.{IsUnusable, IsUsable}
 use Rattle.osrun_core_run.specs.Replay.{IsReplay}
 use Rattle.osrun_core_run.specs.RunOf.{IsRunOf, IsRunOfCode}
-use Rattle.osrun_core_run.specs.declared.made.Run.{Run}
+use Rattle.osrun_core_run.specs.declared.made.MadeRun.{MadeRun}
 use Rattle.osrun_core_run.specs.declared.replaying.Replay.{Replay}
 use Rattle.task_workers.specs.Logged.{HoldTheEnded}
 use Rattle.trace_replay_text.specs.Trace.{IsTraceOf, trace}
@@ -59,16 +59,16 @@ ReadsLists view old new name result = MatchResult result
     × IsFailed IsUnusable view old new (record { subject = subjects.Trace; name = name }) refusal)
 
 -- the files were read, and the run is that of the one over the other
-pub record IsMadeOf {F : Type 0} (view : FilesView F) (old new : F) (job : Job) (run : Run) : Type 0 where
+pub record IsMadeOf {F : Type 0} (view : FilesView F) (old new : F) (job : Job) (run : MadeRun) : Type 0 where
   pub text : List ℕ
   pub input : List ℕ
-  pub read : WereRead IsUsable view old new (files_of (RunRequest job)) (text ∷ input ∷ [])
+  pub read : WereRead IsUsable view old new (files_of (Run job)) (text ∷ input ∷ [])
   pub program : ProgramTree
   pub is_program : IsAccepted text program
   pub is_run : IsRunOf job.task_budget job.control_budget program input run.output.items run.layout run.ends run.control
 
 -- the files were read, and the run is that of the code of the one over the other
-pub record IsExecOf {F : Type 0} (view : FilesView F) (old new : F) (job : ExecJob) (run : Run) : Type 0 where
+pub record IsExecOf {F : Type 0} (view : FilesView F) (old new : F) (job : ExecJob) (run : MadeRun) : Type 0 where
   pub object : List ℕ
   pub input : List ℕ
   pub read : WereRead IsUsable view old new (files_of (Exec job)) (object ∷ input ∷ [])
@@ -92,15 +92,15 @@ IsUnmadeOf view old new files refusal =
     IsCauseOf IsUsable IsUnusable view old new files refusal
     ⊎ ((refusal ≡ refusals.Memory) × ReadsInOrder IsUsable view old new files)
 
-abbrev pub MakesRun : {F : Type 0} → FilesView F → F → F → Job → Result Run Refusal → Type 0
-MakesRun view old new job result = MatchResult result (IsMadeOf view old new job) (IsUnmadeOf view old new (files_of (RunRequest job)))
+abbrev pub MakesRun : {F : Type 0} → FilesView F → F → F → Job → Result MadeRun Refusal → Type 0
+MakesRun view old new job result = MatchResult result (IsMadeOf view old new job) (IsUnmadeOf view old new (files_of (Run job)))
 
-abbrev pub MakesExec : {F : Type 0} → FilesView F → F → F → ExecJob → Result Run Refusal → Type 0
+abbrev pub MakesExec : {F : Type 0} → FilesView F → F → F → ExecJob → Result MadeRun Refusal → Type 0
 MakesExec view old new job result = MatchResult result (IsExecOf view old new job) (IsUnmadeOf view old new (files_of (Exec job)))
 
 -- what `explain` is meant to give where it tells this: the text on the output, and the status
 abbrev pub told_outcome : Explanation → JobOutcome
-told_outcome explanation = record { output = string_bytes explanation.text; told = []; own = code_of explanation.status }
+told_outcome explanation = record { output = string_bytes explanation.text; told = []; own = status_code explanation.status }
 
 -- the files were read, and the explanation is what the job is meant to give over their bytes
 abbrev pub IsExplainedOf : {F : Type 0} → FilesView F → F → F → ExplainJob → Explanation → Type 0

@@ -2,7 +2,7 @@ ghost use Rattle.std.specs.Prelude.{Some};
 ghost use Rattle.osrun_core_answer.specs.Answers.{AnswersRequest};
 ghost use Rattle.osrun_core_jobs.specs.Files.{MayOpen, files_of};
 ghost use Rattle.osrun_core_jobs.specs.Jobs.{Compile as CompileRequest, compile_of};
-ghost use Rattle.osrun_core_jobs.specs.Status.{code_of};
+ghost use Rattle.osrun_core_jobs.specs.Status.{status_code};
 
 use crate::make_object::make_object;
 use os_io::{Files, Sink};
@@ -21,7 +21,7 @@ pub fn answer_compile<F: Files, O: Sink, E: Sink>(
 ) -> Status
     requires { MayOpen (F.may files.old) (F.opens files.old) (files_of (CompileRequest (compile_of job.now))) }
     ensures { AnswersRequest F.Files files.old files.new O.Sink out.old out.new E.Sink report.old report.new
-        (Some (CompileRequest (compile_of job.now))) (code_of result) }
+        (Some (CompileRequest (compile_of job.now))) (status_code result) }
 {
     never_usable_and_refused();
     match make_object(alloc, job, files) {

@@ -2,7 +2,7 @@ ghost use Rattle.std.specs.Prelude.{Some};
 ghost use Rattle.osrun_core_answer.specs.Answers.{AnswersRequest};
 ghost use Rattle.osrun_core_jobs.specs.Files.{MayOpen, files_of};
 ghost use Rattle.osrun_core_jobs.specs.Jobs.{Explain as ExplainRequest, IsExplainWithin, explain_of};
-ghost use Rattle.osrun_core_jobs.specs.Status.{code_of};
+ghost use Rattle.osrun_core_jobs.specs.Status.{status_code};
 
 use crate::make_explain::make_explanation;
 use os_io::{Files, Sink};
@@ -26,7 +26,7 @@ pub fn answer_explain<R: Threads + Sync, F: Files, O: Sink, E: Sink, G: Gate>(
     requires within { IsExplainWithin (explain_of job.now) }
     requires may { MayOpen (F.may files.old) (F.opens files.old) (files_of (ExplainRequest (explain_of job.now))) }
     ensures { AnswersRequest F.Files files.old files.new O.Sink out.old out.new E.Sink report.old report.new
-        (Some (ExplainRequest (explain_of job.now))) (code_of result) }
+        (Some (ExplainRequest (explain_of job.now))) (status_code result) }
 {
     never_usable_and_refused();
     match make_explanation(rt, alloc, job, files, gate) {

@@ -9,7 +9,7 @@ ghost use Rattle.osrun_core_run.specs.Run.{ProgramRun};
 use kernels::{LIFT, generate};
 use os_io::Memory;
 use osrun_core_jobs::{GenJob, Refusal, Terms};
-use osrun_core_run::{Run, accept, run_program};
+use osrun_core_run::{MadeRun, accept, run_program};
 use std::alloc::Global;
 use std::thread::Threads;
 use task_workers::Gate;
@@ -39,7 +39,7 @@ fn counted_line(alloc: Global, name: &str, bytes: &[u8]) -> Result<String, Memor
 }
 
 /// The four lines of a run over bytes that were made.
-fn lines(alloc: Global, job: &GenJob, input: &[u8], run: &Run) -> Result<String, Memory>
+fn lines(alloc: Global, job: &GenJob, input: &[u8], run: &MadeRun) -> Result<String, Memory>
     requires few_read { length input.now ≤ input_limit }
     requires few_written { length run.now.output.items ≤ positions_limit }
     ensures { IfOk result (λ text. string_bytes text

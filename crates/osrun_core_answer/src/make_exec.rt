@@ -6,7 +6,7 @@ ghost use Rattle.osrun_core_jobs.specs.Jobs.{Exec as ExecRequest, IsExecWithin, 
 use os_code::Code;
 use os_io::Files;
 use osrun_core_jobs::{ExecJob, Refusal, Subject, load};
-use osrun_core_run::{Run, accept_object, run_code_over};
+use osrun_core_run::{MadeRun, accept_object, run_code_over};
 use std::alloc::Global;
 use std::thread::Threads;
 use task_workers::Gate;
@@ -29,7 +29,7 @@ pub fn make_exec<R: Threads + Sync, F: Files, G: Gate>(
     job: &ExecJob<'_>,
     files: &mut F,
     gate: &G,
-) -> Result<Run, Refusal>
+) -> Result<MadeRun, Refusal>
     requires may { MayOpen (F.may files.old) (F.opens files.old) (files_of (ExecRequest (exec_of job.now))) }
     requires within { IsExecWithin (exec_of job.now) }
     ensures { MakesExec F.Files files.old files.new (exec_of job.now) result }

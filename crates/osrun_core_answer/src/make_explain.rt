@@ -4,13 +4,13 @@ ghost use Rattle.osrun_core_answer.specs.Explained.{Explains, finding_status};
 ghost use Rattle.osrun_core_answer.specs.Made.{MakesExplanation};
 ghost use Rattle.osrun_core_jobs.specs.Files.{MayOpen, files_of};
 ghost use Rattle.osrun_core_jobs.specs.Jobs.{Explain as ExplainRequest, IsExplainWithin, explain_of};
-ghost use Rattle.osrun_core_jobs.specs.Status.{code_of};
+ghost use Rattle.osrun_core_jobs.specs.Status.{status_code};
 ghost use Rattle.stream_match_layouts.specs.Layout.{IsLayout, IsLayoutOf};
 
 use crate::make_run::make_run;
 use os_io::{Files, Memory};
 use osrun_core_jobs::{ExplainJob, Job, Refusal, Status};
-use osrun_core_run::Run;
+use osrun_core_run::MadeRun;
 use std::alloc::Global;
 use std::thread::Threads;
 use task_workers::Gate;
@@ -27,7 +27,7 @@ pub struct Explanation {
 
 /// Whether an activation is starved, as a status.
 fn finding_status(finding: &Finding) -> Status
-    ensures { code_of result ≡ finding_status finding.now }
+    ensures { status_code result ≡ finding_status finding.now }
 {
     match finding {
         Finding::Absent => Status::NotAllDone,
@@ -37,10 +37,10 @@ fn finding_status(finding: &Finding) -> Status
 }
 
 /// Tells of an activation of a run.
-fn explain(alloc: Global, run: &Run, activation: u32) -> Result<Explanation, Memory>
+fn explain(alloc: Global, run: &MadeRun, activation: u32) -> Result<Explanation, Memory>
     requires { IsLayout run.now.layout }
     ensures { IfOk result (λ told. (activations : List Activation) → IsLayoutOf run.now.layout activations
-        → Explains activations run.now.layout.input_len run.now.ends.ends activation (string_bytes told.text) (code_of told.status)) }
+        → Explains activations run.now.layout.input_len run.now.ends.ends activation (string_bytes told.text) (status_code told.status)) }
 {
     let finding = find(alloc, &run.layout, &run.ends, activation)?;
     let text = finding_line(alloc, activation, &finding)?;

@@ -5,7 +5,7 @@ ghost use Rattle.osrun_core_answer.specs.Made.{MakesRun, ReadsProgram};
 
 use os_io::Files;
 use osrun_core_jobs::{Job, Refusal, Subject, load};
-use osrun_core_run::{Run, accept, run_program_over};
+use osrun_core_run::{MadeRun, accept, run_program_over};
 use std::alloc::Global;
 use std::thread::Threads;
 use task_workers::Gate;
@@ -29,7 +29,7 @@ pub fn make_run<R: Threads + Sync, F: Files, G: Gate>(
     job: &Job<'_>,
     files: &mut F,
     gate: &G,
-) -> Result<Run, Refusal>
+) -> Result<MadeRun, Refusal>
     requires may { MayOpen (F.may files.old) (F.opens files.old) (files_of (RunRequest (job_of job.now))) }
     requires within { IsWithin (job_of job.now) }
     ensures { MakesRun F.Files files.old files.new (job_of job.now) result }

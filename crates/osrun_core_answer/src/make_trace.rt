@@ -9,7 +9,7 @@ ghost use Rattle.osrun_core_run.specs.RunOf.{AreTerms, IsRunOf};
 use crate::make_run::read_program;
 use os_io::{Files, Memory};
 use osrun_core_jobs::{Refusal, Subject, Terms, TraceJob, load};
-use osrun_core_run::{Run, trace_program};
+use osrun_core_run::{MadeRun, trace_program};
 use std::alloc::Global;
 use std::thread::Threads;
 use task_workers::Gate;
@@ -22,7 +22,7 @@ pub struct TracedRun {
     /// The lines of the workers: which activations each of them ran, in its order.
     pub text: Vec<u8>,
     /// What the report tells.
-    pub run: Run,
+    pub run: MadeRun,
 }
 
 /// Runs a program over an input, and prints which activations each worker ran.

@@ -2,7 +2,7 @@ ghost use Rattle.std.specs.Prelude.{Some};
 ghost use Rattle.osrun_core_answer.specs.Answers.{AnswersRequest};
 ghost use Rattle.osrun_core_jobs.specs.Files.{MayOpen, files_of};
 ghost use Rattle.osrun_core_jobs.specs.Jobs.{IsReplayWithin, Replay as ReplayRequest, replay_of};
-ghost use Rattle.osrun_core_jobs.specs.Status.{code_of};
+ghost use Rattle.osrun_core_jobs.specs.Status.{status_code};
 
 use crate::make_replay::make_replay;
 use os_io::{Files, Sink};
@@ -23,7 +23,7 @@ pub fn answer_replay<F: Files, O: Sink, E: Sink>(
     requires within { IsReplayWithin (replay_of job.now) }
     requires may { MayOpen (F.may files.old) (F.opens files.old) (files_of (ReplayRequest (replay_of job.now))) }
     ensures { AnswersRequest F.Files files.old files.new O.Sink out.old out.new E.Sink report.old report.new
-        (Some (ReplayRequest (replay_of job.now))) (code_of result) }
+        (Some (ReplayRequest (replay_of job.now))) (status_code result) }
 {
     never_usable_and_refused();
     match make_replay(alloc, job, files) {

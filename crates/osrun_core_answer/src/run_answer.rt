@@ -1,7 +1,7 @@
 ghost use Rattle.std.specs.Prelude.{Some};
 ghost use Rattle.osrun_core_jobs.specs.Files.{MayOpen, files_of};
 ghost use Rattle.osrun_core_jobs.specs.Jobs.{IsWithin, Run as RunRequest, job_of};
-ghost use Rattle.osrun_core_jobs.specs.Status.{code_of};
+ghost use Rattle.osrun_core_jobs.specs.Status.{status_code};
 ghost use Rattle.osrun_core_answer.specs.Answers.{AnswersRequest};
 
 use crate::make_run::make_run;
@@ -26,7 +26,7 @@ pub fn answer_run<R: Threads + Sync, F: Files, O: Sink, E: Sink, G: Gate>(
     requires within { IsWithin (job_of job.now) }
     requires may { MayOpen (F.may files.old) (F.opens files.old) (files_of (RunRequest (job_of job.now))) }
     ensures { AnswersRequest F.Files files.old files.new O.Sink out.old out.new E.Sink report.old report.new
-        (Some (RunRequest (job_of job.now))) (code_of result) }
+        (Some (RunRequest (job_of job.now))) (status_code result) }
 {
     never_usable_and_refused();
     match make_run(rt, alloc, job, files, gate) {

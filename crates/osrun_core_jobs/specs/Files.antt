@@ -2,7 +2,9 @@
 use Rattle.std.specs.Prelude.{◌≡◌, ◌≤◌, ◌+◌, ℕ, Bool, List, [], ◌∷◌, IfSome, IsTrue, Option, Some, codes, length, slice_get}
 use Rattle.flow_core_laws.specs.Limits.{input_limit}
 use Rattle.os_io.specs.Counts.{last_count}
+use Rattle.os_io.specs.Limits.{read_limit}
 use Rattle.os_lexer.specs.Limits.{text_limit}
+use Rattle.osrun_core_jobs.specs.Limits.{trace_limit}
 use Rattle.osrun_core_jobs.specs.Jobs.{Request, Run, Gen, Compile, Exec, Explain, Trace, Replay}
 use Rattle.osrun_core_jobs.specs.declared.subject.Subject.{Subject}
 use Rattle.osrun_core_jobs.specs.declared.subject.Subject.TheVariants as subjects
@@ -18,8 +20,8 @@ subject_name subjects.Trace = codes "trace"
 abbrev pub limit_of : Subject → ℕ
 limit_of subjects.Program = text_limit
 limit_of subjects.Input = input_limit
-limit_of subjects.Object = 67108864
-limit_of subjects.Trace = 4194304
+limit_of subjects.Object = read_limit
+limit_of subjects.Trace = trace_limit
 
 -- a file that a job reads: what it is to the job, and its name
 pub record JobFile : Type 0 where

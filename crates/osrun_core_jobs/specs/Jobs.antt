@@ -1,6 +1,7 @@
 -- The jobs that words may name.
 use Rattle.std.specs.Prelude.{◌≤◌, ℕ, List, Option, Some, None}
 use Rattle.flow_core_laws.specs.Limits.{budget_limit, last_activation, workers_limit}
+use Rattle.osrun_core_jobs.specs.Limits.{blocks_limit, seed_limit}
 use Rattle.osrun_core_jobs.specs.declared.job.CompileJob.{CompileJob as LentCompile}
 use Rattle.osrun_core_jobs.specs.declared.job.ExecJob.{ExecJob as LentExec}
 use Rattle.osrun_core_jobs.specs.declared.job.ExplainJob.{ExplainJob as LentExplain}
@@ -94,7 +95,7 @@ pub data Request : Type 0 where
   Trace : TraceJob → Request
   Replay : ReplayJob → Request
 
--- the run, where it is one
+-- the job of a `run` request; none for others
 abbrev pub run_in : Request → Option Job
 run_in (Run job) = Some job
 run_in (Gen job) = None
@@ -104,7 +105,7 @@ run_in (Explain job) = None
 run_in (Trace job) = None
 run_in (Replay job) = None
 
--- the bytes to make, where it is that
+-- the job of a `gen` request; none for others
 abbrev pub gen_in : Request → Option GenJob
 gen_in (Run job) = None
 gen_in (Gen job) = Some job
@@ -114,7 +115,7 @@ gen_in (Explain job) = None
 gen_in (Trace job) = None
 gen_in (Replay job) = None
 
--- the program to compile, where it is that
+-- the job of a `compile` request; none for others
 abbrev pub compile_in : Request → Option CompileJob
 compile_in (Run job) = None
 compile_in (Gen job) = None
@@ -124,7 +125,7 @@ compile_in (Explain job) = None
 compile_in (Trace job) = None
 compile_in (Replay job) = None
 
--- the run of an object, where it is that
+-- the job of an `exec` request; none for others
 abbrev pub exec_in : Request → Option ExecJob
 exec_in (Run job) = None
 exec_in (Gen job) = None
@@ -134,7 +135,7 @@ exec_in (Explain job) = None
 exec_in (Trace job) = None
 exec_in (Replay job) = None
 
--- the activation to explain, where it is that
+-- the job of an `explain` request; none for others
 abbrev pub explain_in : Request → Option ExplainJob
 explain_in (Run job) = None
 explain_in (Gen job) = None
@@ -144,7 +145,7 @@ explain_in (Explain job) = Some job
 explain_in (Trace job) = None
 explain_in (Replay job) = None
 
--- the run to trace, where it is that
+-- the job of a `trace` request; none for others
 abbrev pub trace_in : Request → Option TraceJob
 trace_in (Run job) = None
 trace_in (Gen job) = None
@@ -154,7 +155,7 @@ trace_in (Explain job) = None
 trace_in (Trace job) = Some job
 trace_in (Replay job) = None
 
--- the run in the order of a trace, where it is that
+-- the job of a `replay` request; none for others
 abbrev pub replay_in : Request → Option ReplayJob
 replay_in (Run job) = None
 replay_in (Gen job) = None
@@ -172,9 +173,9 @@ pub record IsWithin (job : Job) : Type 0 where
   pub control_turns : job.control_budget ≤ budget_limit
 
 pub record IsGenWithin (job : GenJob) : Type 0 where
-  pub seed_fits : job.seed ≤ 4294967295
+  pub seed_fits : job.seed ≤ seed_limit
   pub some_blocks : 1 ≤ job.blocks
-  pub few_blocks : job.blocks ≤ 65536
+  pub few_blocks : job.blocks ≤ blocks_limit
   pub some_workers : 1 ≤ job.workers
   pub few_workers : job.workers ≤ workers_limit
 

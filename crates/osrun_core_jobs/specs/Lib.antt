@@ -1,6 +1,7 @@
--- What a reader believes: jobs and their files, how files are read, the statuses, the lines that tell a refusal, and what a sink took.
+-- What a reader believes: jobs with their limits and their files, how files are read, the statuses, the lines that tell a refusal, and what a sink took.
 pub mod Files
 pub mod Jobs
+pub mod Limits
 pub mod LineRoom
 pub mod Reading
 pub mod Refusal

@@ -10,6 +10,7 @@
 
 mod delivering;
 mod job;
+mod limits;
 mod line;
 mod loading;
 mod refusal;
@@ -19,6 +20,7 @@ mod telling;
 
 pub use delivering::{Lines, NoLines, deliver};
 pub use job::{CompileJob, ExecJob, ExplainJob, GenJob, Job, ReplayJob, Request, Terms, TraceJob};
+pub use limits::{BLOCKS_LIMIT, SEED_LIMIT};
 pub use line::Line;
 pub use loading::load;
 pub use refusal::Refusal;

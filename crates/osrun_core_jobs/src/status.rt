@@ -1,5 +1,8 @@
 ghost use Rattle.std.specs.Prelude.{◌≡◌};
-ghost use Rattle.osrun_core_jobs.specs.Status.{code_of};
+ghost use Rattle.collector.specs.Status.{run_status_code};
+ghost use Rattle.osrun_core_jobs.specs.Status.{status_code};
+
+use collector::RunStatus;
 
 /// How a call of the command ended.
 #[derive(Clone, Copy, Debug, PartialEq, Eq)]
@@ -26,9 +29,19 @@ pub enum Status {
 }
 
 impl Status {
+    /// The status of a call that made a run.
+    pub fn of_run(run: RunStatus) -> Status
+        ensures { status_code result ≡ run_status_code run }
+    {
+        match run {
+            RunStatus::AllDone => Status::AllDone,
+            RunStatus::NotAllDone => Status::NotAllDone,
+        }
+    }
+
     /// The status of the process, 0 to 8.
     pub fn code(self) -> u8
-        ensures { result ≡ code_of self }
+        ensures { result ≡ status_code self }
     {
         self as u8
     }

@@ -1,7 +1,9 @@
 ghost use Rattle.std.specs.Prelude.{◌≡◌};
 ghost use Rattle.osrun_core_jobs.specs.Files.{limit_of, subject_name};
 
+use crate::limits::TRACE_LIMIT;
 use flow_core_laws::INPUT_LIMIT;
+use os_io::READ_LIMIT;
 use os_lexer::TEXT_LIMIT;
 
 /// What a file is to the job that reads it.
@@ -25,8 +27,8 @@ impl Subject {
         match self {
             Subject::Program => TEXT_LIMIT as u64,
             Subject::Input => INPUT_LIMIT as u64,
-            Subject::Object => 67_108_864,
-            Subject::Trace => 4_194_304,
+            Subject::Object => READ_LIMIT,
+            Subject::Trace => TRACE_LIMIT,
         }
     }
 

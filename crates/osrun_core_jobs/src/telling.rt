@@ -1,6 +1,6 @@
 ghost use Rattle.std.specs.Prelude.{◌≡◌, ◌≤◌, ◌++◌, codes, length};
 ghost use Rattle.std.specs.Fmt.{decimal};
-ghost use Rattle.collector.specs.Line.{line};
+ghost use Rattle.os_io.specs.Lines.{ended_line};
 ghost use Rattle.osrun_core_jobs.specs.Files.{subject_name};
 ghost use Rattle.osrun_core_jobs.specs.Refusal.{refusal_line, refusal_status};
 ghost use Rattle.osrun_core_jobs.specs.Telling.{Tells};
@@ -22,7 +22,7 @@ pub fn tell<S: Sink>(sink: &mut S, text: &[u8])
     let _ = write_whole(sink, text);
 }
 
-/// What is told of refused bytes, as far as the code.
+/// The front of the line: `refused` and the code.
 fn refused_by(code: u8) -> Line
     ensures told { result ≡ codes "refused " ++ decimal code }
     ensures short { length result ≤ 11 }
@@ -36,7 +36,7 @@ fn refused_by(code: u8) -> Line
 /// Adds the line at which bytes are refused.
 fn end_at(told: &mut Line, number: u32)
     requires { length told.old ≤ 11 }
-    ensures { told.new ≡ told.old ++ line (codes " line " ++ decimal number) }
+    ensures { told.new ≡ told.old ++ ended_line (codes " line " ++ decimal number) }
 {
     told.text(b" line ");
     told.number(number as u64);
@@ -63,7 +63,7 @@ fn refused_line(code: u8, line: Option<u32>) -> Line
 /// The line that tells what is wrong with one of the files.
 fn subject_line(wrong: &[u8], subject: Subject) -> Line
     requires { length wrong.now ≤ 16 }
-    ensures { result ≡ line (wrong.now ++ subject_name subject) }
+    ensures { result ≡ ended_line (wrong.now ++ subject_name subject) }
 {
     let mut told = Line::new();
     told.text(wrong);

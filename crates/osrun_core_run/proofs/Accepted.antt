@@ -1,5 +1,6 @@
 -- A text is accepted or refused, and never both.
 use Rattle.std.proofs.Common.{◌≡◌, ◌⊎◌, inl, inr, ℕ, List, Some, None, refl}
+use Rattle.front_end.specs.Codes.{refusal_code}
 use Rattle.front_end.specs.Texts.{IsAccepted, IsTrueOf, NeverBoth}
 use Rattle.front_end.specs.declared.text_error.TextError.{TextError}
 use Rattle.front_end.specs.declared.text_error.TextError.TheVariants as errors
@@ -11,12 +12,12 @@ use Rattle.osrun_core_jobs.specs.declared.refusal.Refusal.TheVariants as refusal
 
 -- an error of a text is told as what is wrong with it
 pub told : (text : List ℕ) (e : TextError) → IsTrueOf text e → (text_refusal e ≡ refusals.Memory) ⊎ IsRefusalOf text (text_refusal e)
-told text (errors.Refused code line) h = inr h
+told text (errors.Refused refusal line) h = inr h
 told text errors.Memory h = inl refl
 
 -- an accepted text has no error but want of memory
 pub error_is_memory : NeverBoth → (text : List ℕ) (p : ProgramTree) (e : TextError) → IsAccepted text p → IsTrueOf text e → text_refusal e ≡ refusals.Memory
-error_is_memory never text p (errors.Refused code line) accepted h = absurd (never text p code line accepted h)
+error_is_memory never text p (errors.Refused refusal line) accepted h = absurd (never text p (refusal_code refusal) line accepted h)
 error_is_memory never text p errors.Memory accepted h = refl
 
 -- and it isn't refused

@@ -4,7 +4,7 @@ use Rattle.std.specs.Prelude.{◌==◌, filter, sum_by}
 use Rattle.std.proofs.lemmas.List.{length-drop, length-replicate, length-take}
 use Rattle.std.proofs.lemmas.List.Sums.{sum_by-cons}
 use Rattle.c_int.specs.Traps.{trap_code}
-use Rattle.cddf_meaning.specs.Body.{body, bound_round, chosen_outcome, done, gives_bytes, item_lists, outcome, outcome_in, over_budget, task_outcome, trapped, outputs_of}
+use Rattle.cddf_meaning.specs.Body.{body, bound_round, chosen_outcome, done, gives_bytes, item_lists, outcome, outcome_in, task_outcome, outputs_of}
 use Rattle.cddf_meaning.specs.Flow.{Ran, Went, Ended}
 use Rattle.cddf_meaning.specs.Functions.{file_of, in_function}
 use Rattle.cddf_meaning.specs.Moves.{Keeps, item_lengths}
@@ -13,6 +13,7 @@ use Rattle.cddf_meaning.specs.Run.{Around, run}
 use Rattle.cddf_meaning.specs.BodyState.{BodyState, state_of}
 use Rattle.cddf_meaning.specs.Tasks.{Task}
 use Rattle.cddf_meaning.specs.declared.ending.Ending.TheVariants.{Trapped, OverBudget, Limited}
+use Rattle.flow_core_laws.specs.Outcome.{over_budget, trapped}
 use Rattle.flow_core_laws.specs.Window.{offset_after}
 use Rattle.flow_core_laws.specs.declared.activation.Activation.{Activation}
 use Rattle.flow_core_laws.specs.declared.claim.Claim.{Claim}

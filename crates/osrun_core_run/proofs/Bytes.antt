@@ -44,11 +44,11 @@ value_written None outputs place v h = by (slice_get outputs place) refl h
     by (Some w) is e = let same : Some w ≡ Some v = cc in is ∙ same
 
 -- by a body that ran on values alone
-value_of_body : (body : ℕ → List ℤ → Outcome) (a : ℕ) (es : List Elem) (place : ℕ) (v : ℤ) → elements.written a (poisoning body a es) place ≡ Some (Value v)
+value_of_body : (body : ℕ → List ℤ → Outcome) (a : ℕ) (es : List Elem) (place : ℕ) (v : ℤ) → elements.element_written a (poisoning body a es) place ≡ Some (Value v)
     → (least_root es ≡ None) × (slice_get (body a (values_of es)).outputs place ≡ Some v)
 value_of_body body a es place v h = by_root (least_root es) refl h
   where
-    by_root : (root : Option ℕ) → least_root es ≡ root → elements.written a (option_map_or (λ (r : ℕ). outcome_of (Poisoned r) []) root (body a (values_of es))) place ≡ Some (Value v)
+    by_root : (root : Option ℕ) → least_root es ≡ root → elements.element_written a (option_map_or (λ (r : ℕ). outcome_of (Poisoned r) []) root (body a (values_of es))) place ≡ Some (Value v)
         → (least_root es ≡ None) × (slice_get (body a (values_of es)).outputs place ≡ Some v)
     by_root None none is = (none, value_written (root_of a (body a (values_of es)).end) (body a (values_of es)).outputs place v is)
     by_root (Some r) none is = absurd (cc)
@@ -69,10 +69,10 @@ module _ (activations : List Activation) (input : List ℕ) (body : ℕ → List
 
       by : (o : Option (List Elem)) → inputs_in stream_element (stream_reads activations input) state a ≡ o → (inputs : List ℤ) × (length inputs ≡ input_count x) × (slice_get (body a inputs).outputs place ≡ Some value)
       by None none =
-          let e : None ≡ Some (Value value) = sym (ap (option_and_then (λ (o : Outcome). elements.written a o place)) (here ∙ ap (option_map (poisoning body a)) none)) ∙ is in
+          let e : None ≡ Some (Value value) = sym (ap (option_and_then (λ (o : Outcome). elements.element_written a o place)) (here ∙ ap (option_map (poisoning body a)) none)) ∙ is in
           absurd (cc)
       by (Some es) there =
-          let (none, wrote) = value_of_body body a es place value (sym (ap (option_and_then (λ (o : Outcome). elements.written a o place)) (here ∙ ap (option_map (poisoning body a)) there)) ∙ is) in (
+          let (none, wrote) = value_of_body body a es place value (sym (ap (option_and_then (λ (o : Outcome). elements.element_written a o place)) (here ∙ ap (option_map (poisoning body a)) there)) ∙ is) in (
             values_of es,
             length-values es none ∙ length-gathered (map (stream_element state) (stream_reads activations input a)) es there ∙ length-map (stream_reads activations input a) (stream_element state) ∙ length-reads activations input a x at,
             wrote,

@@ -19,7 +19,7 @@ use Rattle.osrun_core_run.specs.HandedBack.{HasBytes, HasItsCell, IsMadeOf}
 use Rattle.osrun_core_run.specs.Planned.{IsPlannedOf}
 use Rattle.osrun_core_run.specs.Replay.{IsHandedBack, IsReplay}
 use Rattle.osrun_core_run.specs.RunOf.{IsRunOfCode}
-use Rattle.osrun_core_run.specs.declared.made.Run.{Run}
+use Rattle.osrun_core_run.specs.declared.made.MadeRun.{MadeRun}
 use Rattle.osrun_core_run.specs.declared.planning.Planned.{Planned}
 use Rattle.osrun_core_run.specs.declared.replaying.Replay.{Replay}
 use Rattle.osrun_core_run.specs.declared.replaying.Replay.TheVariants.{Told, Whole}
@@ -64,7 +64,7 @@ module _ (code : Parts) (budgets : Budgets) (input : List ℕ) (lists : List (Li
     has_bytes codes bytes valid (answers.Stranger list place) h = tt
 
     -- a run of whole lists is a run of the code
-    whole_run : (answer : Replayed) → IsRight answer → (run : Run) → IsMadeOf planned answer (Whole run)
+    whole_run : (answer : Replayed) → IsRight answer → (run : MadeRun) → IsMadeOf planned answer (Whole run)
         → IsRunOfCode budgets.task budgets.control code input run.output.items run.layout run.ends run.control
     whole_run answer h run made =
         let activations = planned.control.activations in

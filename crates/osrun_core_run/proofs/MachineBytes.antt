@@ -15,13 +15,13 @@ use Rattle.flow_core_laws.specs.declared.task_end.TaskEnd.TheVariants as task
 use Rattle.os_code.specs.declared.instr.Instr.{Instr}
 use Rattle.os_code.specs.declared.parts.Parts.{Parts}
 use Rattle.os_code.specs.declared.site.Site.{Site}
-use Rattle.os_code.specs.declared.unit.Unit.{Unit as CodeUnit}
+use Rattle.os_code.specs.declared.unit.CodeUnit.{CodeUnit}
 use Rattle.os_code.specs.IsValid.{IsValid}
 use Rattle.os_code.specs.Laws.{TasksEnd}
 use Rattle.os_code.specs.Machine.{MachineState, TaskWindow, Halt, Progress, Going, Halted, act, step, Runs, Halts, GoesOn}
-use Rattle.os_code.specs.Outcomes.{task_outcome}
+use Rattle.os_code.specs.Outcomes.{code_outcome}
 use Rattle.os_code.specs.Parts.{unit_at, kind_at}
-use Rattle.os_code.specs.Tasks.{TaskOutcome, IsDone, SendsNoByte, IsTrapped, IsOver, sends_bytes, task_start, windows_of, written}
+use Rattle.os_code.specs.Tasks.{TaskOutcome, IsDone, SendsNoByte, IsTrapped, IsOver, sends_bytes, task_start, task_windows, written_elements}
 use Rattle.os_code.proofs.Halting.{task_stands}
 use Rattle.os_code.proofs.Keeping.{Keeps, KeepsGoing, KeepsHalted, KeepsStuck, few_codes, keeps, shape_of}
 use Rattle.os_code.proofs.Lists.{there}
@@ -77,20 +77,20 @@ run_keeps code valid job no_main left s last halt _ sound (GoesOn {t = t} {steps
 abbrev shape_for : List Claim → List (Claim × ℕ)
 shape_for claims = map (λ (c : Claim). (c, c.horizon)) claims
 
-start_shape : (claims : List Claim) (inputs : List ℤ) → length inputs ≡ read_sum claims → shape_of (windows_of claims inputs) ≡ shape_for claims
+start_shape : (claims : List Claim) (inputs : List ℤ) → length inputs ≡ read_sum claims → shape_of (task_windows claims inputs) ≡ shape_for claims
 start_shape [] inputs h = refl
 start_shape (c ∷ cs) inputs h = by_write c.write (h ∙ read_sum-cons c cs) (start_shape cs)
   where
     by_write : (b : Bool) → length inputs ≡ cond (not b) (c.horizon + read_sum cs) (read_sum cs)
-        → ((more : List ℤ) → length more ≡ read_sum cs → shape_of (windows_of cs more) ≡ shape_for cs)
-        → shape_of (cond b (record { claim = c; elements = replicate c.horizon (pos 0) } ∷ windows_of cs inputs) (record { claim = c; elements = take c.horizon inputs } ∷ windows_of cs (drop c.horizon inputs)))
+        → ((more : List ℤ) → length more ≡ read_sum cs → shape_of (task_windows cs more) ≡ shape_for cs)
+        → shape_of (cond b (record { claim = c; elements = replicate c.horizon (pos 0) } ∷ task_windows cs inputs) (record { claim = c; elements = take c.horizon inputs } ∷ task_windows cs (drop c.horizon inputs)))
         ≡ (c, c.horizon) ∷ shape_for cs
     by_write true long next =
-        ap (λ (n : ℕ). (c, n) ∷ shape_of (windows_of cs inputs)) (length-replicate c.horizon (pos 0))
+        ap (λ (n : ℕ). (c, n) ∷ shape_of (task_windows cs inputs)) (length-replicate c.horizon (pos 0))
         ∙ ap (λ (xs : List (Claim × ℕ)). (c, c.horizon) ∷ xs) (next inputs long)
     by_write false long next =
         let size : length (take c.horizon inputs) ≡ c.horizon = length-take c.horizon inputs ∙ omega (arith, long) in
-        ap (λ (n : ℕ). (c, n) ∷ shape_of (windows_of cs (drop c.horizon inputs))) size
+        ap (λ (n : ℕ). (c, n) ∷ shape_of (task_windows cs (drop c.horizon inputs))) size
         ∙ ap (λ (xs : List (Claim × ℕ)). (c, c.horizon) ∷ xs) (next (drop c.horizon inputs) (omega (arith, long, length-drop c.horizon inputs)))
 
 -- ---- windows as claims and lists
@@ -120,19 +120,19 @@ same_sends : (windows : List TaskWindow) → gives_bytes (claims_in windows) (el
 same_sends [] = refl
 same_sends (w ∷ ws) = ap (λ (b : Bool). (not (writes_output w.claim) || list_all is_byte w.elements) && b) (same_sends ws)
 
-same_written : (windows : List TaskWindow) → outputs_of (claims_in windows) (elements_in windows) ≡ written windows
+same_written : (windows : List TaskWindow) → outputs_of (claims_in windows) (elements_in windows) ≡ written_elements windows
 same_written [] = refl
 same_written (w ∷ ws) = by_write w.claim.write (same_written ws)
   where
-    by_write : (b : Bool) → outputs_of (claims_in ws) (elements_in ws) ≡ written ws
-        → cond b (w.elements ++ outputs_of (claims_in ws) (elements_in ws)) (outputs_of (claims_in ws) (elements_in ws)) ≡ cond b w.elements [] ++ written ws
+    by_write : (b : Bool) → outputs_of (claims_in ws) (elements_in ws) ≡ written_elements ws
+        → cond b (w.elements ++ outputs_of (claims_in ws) (elements_in ws)) (outputs_of (claims_in ws) (elements_in ws)) ≡ cond b w.elements [] ++ written_elements ws
     by_write true rest = ap (λ (xs : List ℤ). w.elements ++ xs) rest
     by_write false rest = rest
 
 -- ---- what a run gives
 
 done_gives : (x : Activation) (windows : List TaskWindow) → list_all sends_bytes windows ≡ true → shape_of windows ≡ shape_for x.claims
-    → GivesBytes x (outcome_of task.Done (written windows))
+    → GivesBytes x (outcome_of task.Done (written_elements windows))
 done_gives x windows sends shape k j c value at write stream lt is =
     let same = same_shape windows x.claims shape in
     bytes_written (claims_in windows) (elements_in windows) (same.1 ∙ ap horizons (sym same.0)) (same_sends windows ∙ sends) k j c value
@@ -155,5 +155,5 @@ code_gives tasks_end code x inputs budget valid fits long =
     let units : ends.unit ≡ stands.unit = let e : Some ends.unit ≡ Some stands.unit = sym ends.is_unit ∙ ap (λ (site : Site). unit_at code site.unit) sites ∙ stands.is_unit in cc in
     let runs : Runs code (task_start stands.unit x inputs budget) ends.halt ends.last had.steps =
     subst (λ (u : CodeUnit). Runs code (task_start u x inputs budget) ends.halt ends.last had.steps) units ends.runs in
-    let kept = run_keeps code valid (record { is_main = false; windows = length (windows_of x.claims inputs) }) refl _ _ ends.last ends.halt had.steps stands.sound runs in
-    gives_at x ends.site.line ends.halt ends.last (task_outcome code x inputs budget) ends.ends (kept ∙ start_shape x.claims inputs long)
+    let kept = run_keeps code valid (record { is_main = false; windows = length (task_windows x.claims inputs) }) refl _ _ ends.last ends.halt had.steps stands.sound runs in
+    gives_at x ends.site.line ends.halt ends.last (code_outcome code x inputs budget) ends.ends (kept ∙ start_shape x.claims inputs long)

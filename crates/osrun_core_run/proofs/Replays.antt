@@ -9,13 +9,13 @@ use Rattle.flow_core_laws.specs.declared.outcome.Outcome.{Outcome}
 use Rattle.flow_core_laws.specs.declared.plan.Plan.{Plan}
 use Rattle.flow_core_laws.specs.declared.task_end.TaskEnd.TheVariants.{Poisoned}
 use Rattle.flow_core_laws.specs.Element.{Source}
-use Rattle.flow_core_laws.specs.Outcome.{State, outcome_at, outcome_of}
+use Rattle.flow_core_laws.specs.Outcome.{State, outcome_at, outcome_of, over_budget}
 use Rattle.flow_core_laws.specs.Plans.{plan_element, plan_reads}
 use Rattle.flow_core_laws.specs.Poisoning.{least_root, poisoning, values_of}
 use Rattle.flow_core_laws.specs.Round.{IsEnabled, inputs_in}
 use Rattle.std.specs.Prelude.{All, IsSome, slice_get}
 use Rattle.std.proofs.lemmas.Option.{slice_get_within}
-use Rattle.cddf_meaning.specs.Body.{body as task_body, over_budget}
+use Rattle.cddf_meaning.specs.Body.{body as task_body}
 use Rattle.epoch_run.specs.declared.result.Budgets.{Budgets}
 use Rattle.epoch_run_bodies.proofs.Counts.{length-reads}
 use Rattle.epoch_run_bodies.specs.Frames.{frame_outcome}
@@ -173,7 +173,7 @@ agree_at code p activations budget runs fit plan input stands a inputs long = by
         bodies_agree code p activations budget runs fit a x inputs at
         (long ∙ ap (λ (sources : List Source). length sources) (stands.cells_are_window_elements a (slice_get_within activations a x at)) ∙ length-reads activations input a x at)
     by None at =
-        ap (λ (o : Option Activation). option_map_or (λ (y : Activation). machine.task_outcome code y inputs budget) o machine.over_budget) at
+        ap (λ (o : Option Activation). option_map_or (λ (y : Activation). machine.code_outcome code y inputs budget) o over_budget) at
         ∙ sym (ap (λ (o : Option Activation). option_map_or (λ (y : Activation). task_body p y inputs budget) o over_budget) at)
 
 -- so what lists come to over a plan of the code is what they come to with the program's bodies

@@ -1,13 +1,14 @@
 -- What a run of a job comes to is of one state, and has only bytes.
 use Rattle.std.proofs.Common.{◌≡◌, ℕ, All, List, Option, length, sym, ap, ◌∙◌, subst}
 use Rattle.std.specs.Option.{option_map_or}
-use Rattle.cddf_meaning.specs.Body.{body, over_budget}
+use Rattle.cddf_meaning.specs.Body.{body}
 use Rattle.cddf_meaning.specs.Control.{control}
 use Rattle.collector.specs.Laws.{HasItsLines, OfFilled}
 use Rattle.collector.specs.Reported.{AreOfState}
 use Rattle.collector.specs.Status.{status}
 use Rattle.collector.specs.Written.{IsByteIfThere, written}
 use Rattle.flow_core_laws.specs.Laws.{IsFilled}
+use Rattle.flow_core_laws.specs.Outcome.{over_budget}
 use Rattle.flow_core_laws.specs.Place.{written_count}
 use Rattle.flow_core_laws.specs.Streams.{stream_meaning}
 use Rattle.flow_core_laws.specs.declared.activation.Activation.{Activation}

@@ -4,11 +4,11 @@ use Rattle.std.specs.Prelude.{IfOk, Result, Ok, Err}
 use Rattle.std.specs.Option.{option_map_or}
 use Rattle.std.proofs.lemmas.List.Elements.{All-get_or}
 use Rattle.std.proofs.lemmas.Option.{get_or_from_slice_get, slice_get_within}
-use Rattle.cddf_meaning.specs.Body.{body, over_budget}
+use Rattle.cddf_meaning.specs.Body.{body}
 use Rattle.collector.specs.Written.{IsByteIfThere}
 use Rattle.epoch_run.specs.declared.result.RunResult.{RunResult}
 use Rattle.flow_core_laws.specs.Laws.{MeansTheStreams, SinkIsTheOutput}
-use Rattle.flow_core_laws.specs.Outcome.{ends_of}
+use Rattle.flow_core_laws.specs.Outcome.{ends_of, over_budget}
 use Rattle.flow_core_laws.specs.Plans.{plan_meaning, sink_elements}
 use Rattle.flow_core_laws.specs.StandsFor.{StandsFor}
 use Rattle.flow_core_laws.specs.Streams.{output_elements, stream_ends, stream_meaning}
@@ -63,7 +63,7 @@ module _ (code : Parts) (p : ProgramTree) (activations : List Activation) (budge
   -- the machine makes of each activation what the body of its task does
   pub agree : Agree activations (frame_outcome code activations budget) (body_at p activations budget)
   agree a x inputs at long =
-      ap (λ o. option_map_or (λ (y : Activation). machine.task_outcome code y inputs budget) o machine.over_budget) at
+      ap (λ o. option_map_or (λ (y : Activation). machine.code_outcome code y inputs budget) o over_budget) at
       ∙ runs x inputs budget (fits_at code activations fit a x at) long
       ∙ sym (ap (λ o. option_map_or (λ (y : Activation). body p y inputs budget) o over_budget) at)
 
@@ -107,7 +107,7 @@ code_bytes_are codes bytes code valid activations fit input budget = bytes activ
   where
     gives : (a : ℕ) (x : Activation) (inputs : List ℤ) → slice_get activations a ≡ Some x → length inputs ≡ input_count x → GivesBytes x (frame_outcome code activations budget a inputs)
     gives a x inputs at long =
-        subst (GivesBytes x) (sym (ap (λ (o : Option Activation). option_map_or (λ (y : Activation). machine.task_outcome code y inputs budget) o machine.over_budget) at))
+        subst (GivesBytes x) (sym (ap (λ (o : Option Activation). option_map_or (λ (y : Activation). machine.code_outcome code y inputs budget) o over_budget) at))
         (codes code x inputs budget valid (fits_at code activations fit a x at) long)
 
 pub bytes_if : {E : Type 0} → CodesGiveBytes → OutputsAreBytes → (code : Parts) → IsValid code → (activations : List Activation)

@@ -8,19 +8,20 @@ use Rattle.osrun_core_jobs.specs.declared.refusal.Refusal.TheVariants as refusal
 use Rattle.osrun_core_jobs.specs.declared.subject.Subject.TheVariants.{Trace}
 use Rattle.osrun_core_run.specs.Accepting.{trace_refusal}
 use Rattle.osrun_core_run.specs.Refusal.{IsRefusalAs}
-use Rattle.trace_replay_text.specs.Fields.{IsRefused}
+use Rattle.trace_replay_text.specs.Fields.{IsTraceRefused}
 use Rattle.trace_replay_text.specs.Laws.{TracesAreTold}
-use Rattle.trace_replay_text.specs.Trace.{IsTraceOf, field, lines_from, worker_line}
+use Rattle.os_io.specs.Lines.{field}
+use Rattle.trace_replay_text.specs.Trace.{IsTraceOf, lines_from, worker_line}
 use Rattle.trace_replay_text.specs.declared.trace_error.TraceError.{TraceError}
 use Rattle.trace_replay_text.specs.declared.trace_error.TraceError.TheVariants as errors
 
 -- an error of a trace is told as what is wrong with it
-pub trace_told : (bytes : List ℕ) (e : TraceError) → IsRefused bytes e → (trace_refusal e ≡ refusals.Memory) ⊎ IsRefusalAs Trace bytes (trace_refusal e)
+pub trace_told : (bytes : List ℕ) (e : TraceError) → IsTraceRefused bytes e → (trace_refusal e ≡ refusals.Memory) ⊎ IsRefusalAs Trace bytes (trace_refusal e)
 trace_told bytes (errors.Line line) h = inr (refl, h)
 trace_told bytes errors.Memory h = inl refl
 
 -- a trace has no error but want of memory
-pub trace_error_is_memory : TracesAreTold → (bytes : List ℕ) (lists : List (List ℕ)) (e : TraceError) → IsTraceOf bytes lists → IsRefused bytes e
+pub trace_error_is_memory : TracesAreTold → (bytes : List ℕ) (lists : List (List ℕ)) (e : TraceError) → IsTraceOf bytes lists → IsTraceRefused bytes e
     → trace_refusal e ≡ refusals.Memory
 trace_error_is_memory told bytes lists (errors.Line line) is h = absurd (told.not_both bytes lists line is h)
 trace_error_is_memory told bytes lists errors.Memory is h = refl

@@ -1,5 +1,6 @@
 -- What an error of a text, of an object or of a trace is told as.
 use Rattle.std.specs.Prelude.{None, Some}
+use Rattle.front_end.specs.Codes.{refusal_code}
 use Rattle.front_end.specs.declared.text_error.TextError.{TextError}
 use Rattle.front_end.specs.declared.text_error.TextError.TheVariants as errors
 use Rattle.os_object.specs.declared.object_error.ObjectError.{ObjectError}
@@ -11,7 +12,7 @@ use Rattle.trace_replay_text.specs.declared.trace_error.TraceError.{TraceError}
 use Rattle.trace_replay_text.specs.declared.trace_error.TraceError.TheVariants as traces
 
 abbrev pub text_refusal : TextError → Refusal
-text_refusal (errors.Refused code line) = refusals.Refused code (Some line)
+text_refusal (errors.Refused refusal line) = refusals.Refused (refusal_code refusal) (Some line)
 text_refusal errors.Memory = refusals.Memory
 
 abbrev pub object_refusal : ObjectError → Refusal

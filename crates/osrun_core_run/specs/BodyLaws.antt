@@ -10,7 +10,7 @@ use Rattle.flow_core_laws.specs.declared.claim.Claim.{Claim}
 use Rattle.flow_core_laws.specs.declared.outcome.Outcome.{Outcome}
 use Rattle.flow_core_laws.specs.declared.task_end.TaskEnd.TheVariants.{Done}
 use Rattle.os_code.specs.IsValid.{IsValid}
-use Rattle.os_code.specs.Outcomes.{task_outcome}
+use Rattle.os_code.specs.Outcomes.{code_outcome}
 use Rattle.os_code.specs.Tasks.{Fits, input_count}
 use Rattle.os_code.specs.declared.parts.Parts.{Parts}
 
@@ -22,7 +22,7 @@ GivesBytes x o = (k j : ℕ) (c : Claim) (value : ℤ) → slice_get x.claims k 
 -- What the machine makes of an activation that fits a valid code and has its inputs writes nothing but bytes to the output.
 abbrev pub CodesGiveBytes : Type 0
 CodesGiveBytes = (code : Parts) (x : Activation) (inputs : List ℤ) (budget : ℕ) → IsValid code → Fits code x → length inputs ≡ input_count x
-    → GivesBytes x (task_outcome code x inputs budget)
+    → GivesBytes x (code_outcome code x inputs budget)
 
 -- where all bodies give bytes, the elements of the output that are values are bytes
 abbrev pub OutputsAreBytes : Type 0

@@ -3,7 +3,7 @@ use Rattle.std.specs.Prelude.{◌≡◌, ℕ, ℤ, All, List, Option, length}
 use Rattle.cddf_meaning.specs.Body.{body}
 use Rattle.collector.specs.Laws.{HasItsLines}
 use Rattle.collector.specs.Reported.{AreOfState}
-use Rattle.collector.specs.Status.{status}
+use Rattle.collector.specs.Status.{done_status, status}
 use Rattle.collector.specs.Written.{IsByteIfThere, written}
 use Rattle.epoch_run.specs.declared.result.Budgets.{Budgets}
 use Rattle.flow_core_laws.specs.Place.{written_count}
@@ -57,7 +57,7 @@ GivesOnlyBytes run = All IsByteIfThere run.ends.output
 -- at status 0 as many bytes are written as positions of the output are claimed for writing
 abbrev pub WritesAllAtZero : ProgramRun → Type 0
 WritesAllAtZero run =
-    status run.ends.ends run.control.end ≡ 0 → length (written run.ends.output) ≡ written_count run.control.activations 1
+    status run.ends.ends run.control.end ≡ done_status → length (written run.ends.output) ≡ written_count run.control.activations 1
 
 -- each activation that isn't done has a line in the report, and no other has one
 abbrev pub TellsAllButDone : ProgramRun → Type 0

@@ -14,7 +14,7 @@ use Rattle.stream_match_layouts.specs.declared.layout.Layout.{Layout}
 -- These are the activations that `main` of the code creates on the machine over an input, with this budget, their positions, and a
 -- plan that stands for them.
 pub record IsPlannedOf (control_budget : ℕ) (code : Parts) (input : List ℕ) (made : Control) (layout : Layout) (plan : Plan) : Type 0 where
-  pub made_is : made ≡ machine.control code (length input) control_budget
+  pub made_is : made ≡ machine.main_control code (length input) control_budget
   pub fit : All (Fits code) made.activations
   pub lawful : AreLawful code.streams made.activations
   pub whole : IsLayout layout

@@ -1,7 +1,7 @@
 -- The line that is told of lists of activations which aren't whole.
 use Rattle.std.specs.Prelude.{◌≡◌, ℕ, ◌+◌, List, ◌++◌, Some, codes, slice_get}
 use Rattle.std.specs.Fmt.{decimal}
-use Rattle.collector.specs.Line.{line}
+use Rattle.os_io.specs.Lines.{ended_line}
 use Rattle.flow_core_laws.specs.Place.{Place, input_places}
 use Rattle.flow_core_laws.specs.Plans.{frame_at}
 use Rattle.flow_core_laws.specs.declared.activation.Activation.{Activation}
@@ -17,20 +17,20 @@ pub record IsCellOf (plan : Plan) (activations : List Activation) (frame cell : 
 
 -- the list and the place in it of a number that no activation has, both from 0 on
 abbrev pub stranger_line : (list place : ℕ) → List ℕ
-stranger_line list place = line (codes "stranger " ++ decimal list ++ codes " place " ++ decimal place)
+stranger_line list place = ended_line (codes "stranger " ++ decimal list ++ codes " place " ++ decimal place)
 
 -- the activation that stands twice
 abbrev pub repeat_line : ℕ → List ℕ
-repeat_line frame = line (codes "repeat " ++ decimal frame)
+repeat_line frame = ended_line (codes "repeat " ++ decimal frame)
 
 -- the list that isn't used up, its head, and the place of the first element that the head waits for
 abbrev pub stuck_line : (list frame : ℕ) → Place → List ℕ
-stuck_line list frame place = line (codes "stuck " ++ decimal list ++ codes " frame " ++ decimal frame ++ codes " stream " ++ decimal place.stream
+stuck_line list frame place = ended_line (codes "stuck " ++ decimal list ++ codes " frame " ++ decimal frame ++ codes " stream " ++ decimal place.stream
     ++ codes " position " ++ decimal place.position)
 
 -- the least activation that could still run
 abbrev pub short_line : ℕ → List ℕ
-short_line frame = line (codes "short " ++ decimal frame)
+short_line frame = ended_line (codes "short " ++ decimal frame)
 
 -- A text is the line of an answer over a plan that stands for activations. Where the lists are whole there is no line.
 abbrev pub IsReplayLine : Plan → List Activation → Replayed → List ℕ → Type 0

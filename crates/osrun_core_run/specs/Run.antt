@@ -1,9 +1,10 @@
 -- A run of a program over an input.
 use Rattle.std.specs.Prelude.{◌≡◌, ℕ, ℤ, List, Option, length, slice_get}
 use Rattle.std.specs.Option.{option_map_or}
-use Rattle.cddf_meaning.specs.Body.{body, over_budget}
+use Rattle.cddf_meaning.specs.Body.{body}
 use Rattle.cddf_meaning.specs.Control.{control}
-use Rattle.flow_core_laws.specs.Streams.{stream_ends, stream_meaning}
+use Rattle.flow_core_laws.specs.Outcome.{over_budget}
+use Rattle.flow_core_laws.specs.Streams.{meant_ends}
 use Rattle.flow_core_laws.specs.declared.activation.Activation.{Activation}
 use Rattle.flow_core_laws.specs.declared.control.Control.{Control}
 use Rattle.flow_core_laws.specs.declared.ends.Ends.{Ends}
@@ -21,7 +22,7 @@ body_at p activations budget number inputs = option_map_or (λ (a : Activation).
 
 -- What activations come to over an input: the data-flow meaning of their streams, with the bodies of the program.
 abbrev pub ends_over : ProgramTree → List Activation → (input : List ℕ) → (budget : ℕ) → Ends
-ends_over p activations input budget = stream_ends activations input (stream_meaning activations input (body_at p activations budget))
+ends_over p activations input budget = meant_ends activations input (body_at p activations budget)
 
 -- A run: what the control program created and how it ended, the input, and what the activations came to over it.
 pub record ProgramRun : Type 0 where

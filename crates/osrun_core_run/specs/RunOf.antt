@@ -47,7 +47,7 @@ pub record IsRunOf (task_budget control_budget : ℕ) (p : ProgramTree) (input o
 pub record IsRunOfCode (task_budget control_budget : ℕ) (code : Parts) (input output : List ℕ) (layout : Layout) (ends : Ends)
     (end : ControlEnd) : Type 0 where
   pub made : Control
-  pub made_is : made ≡ machine.control code (length input) control_budget
+  pub made_is : made ≡ machine.main_control code (length input) control_budget
   pub end_is : end ≡ made.end
   pub fit : All (Fits code) made.activations
   pub whole : IsLayout layout

@@ -1,6 +1,7 @@
 ghost use Rattle.std.specs.Prelude.{◌≡◌, ◌≤◌, ◌⊎◌, length, IfOk, IfErr, OnOk};
 ghost use Rattle.os_code.specs.Codes.{parts_of};
 ghost use Rattle.os_code.specs.declared.parts.Parts.{Parts as CodeParts};
+ghost use Rattle.osrun_core_jobs.specs.Files.{limit_of};
 ghost use Rattle.osrun_core_jobs.specs.declared.refusal.Refusal.{Refusal as Cause};
 ghost use Rattle.osrun_core_jobs.specs.declared.subject.Subject.TheVariants.{Object as ObjectFile};
 ghost use Rattle.osrun_core_run.specs.Code.{IsObjectOf};
@@ -15,7 +16,7 @@ use std::alloc::Global;
 
 /// The code of an object.
 pub fn accept_object(alloc: Global, bytes: &[u8]) -> Result<Code, Refusal>
-    requires { length bytes.now ≤ 67108864 }
+    requires { length bytes.now ≤ limit_of ObjectFile }
     ensures object { IfOk result (λ code. IsObjectOf bytes.now (parts_of code)) }
     ensures refused { IfErr result (λ refusal. (refusal ≡ Refusal.Memory) ⊎ IsRefusalAs ObjectFile bytes.now refusal) }
     ensures accepted { (parts : CodeParts) → IsObjectOf bytes.now parts → IfErr result (λ refusal. refusal ≡ Refusal.Memory) }

@@ -4,7 +4,7 @@ ghost use Rattle.os_code.specs.Codes.{parts_of};
 ghost use Rattle.osrun_core_run.specs.RunOf.{AreTerms, IsRunOfCode};
 
 use crate::in_epochs::run_in_epochs;
-use crate::made::Run;
+use crate::made::MadeRun;
 use collector::output_bytes;
 use epoch_run::RunResult;
 use os_code::Code;
@@ -23,7 +23,7 @@ pub fn run_code<R: Threads + Sync, G: Gate>(
     code: &Code,
     input: &[u8],
     gate: &G,
-) -> Result<Run, Memory>
+) -> Result<MadeRun, Memory>
     requires within { AreTerms terms }
     requires few { length input.now ≤ input_limit }
     ensures run { IfOk result (λ run. IsRunOfCode terms.task_budget terms.control_budget
@@ -35,7 +35,7 @@ pub fn run_code<R: Threads + Sync, G: Gate>(
         control,
     } = run_in_epochs(rt, alloc, terms, code, input, gate)?;
     let output = output_bytes(alloc, &ends)?;
-    Ok(Run {
+    Ok(MadeRun {
         output,
         layout,
         ends,
@@ -52,7 +52,7 @@ pub fn run_code_over<R: Threads + Sync, G: Gate>(
     code: &Code,
     input: Vec<u8>,
     gate: &G,
-) -> Result<Run, Memory>
+) -> Result<MadeRun, Memory>
     requires within { AreTerms terms }
     requires few { length input.items ≤ input_limit }
     ensures run { IfOk result (λ run. IsRunOfCode terms.task_budget terms.control_budget
@@ -65,7 +65,7 @@ pub fn run_code_over<R: Threads + Sync, G: Gate>(
     } = run_in_epochs(rt, alloc, terms, code, &input, gate)?;
     drop(input);
     let output = output_bytes(alloc, &ends)?;
-    Ok(Run {
+    Ok(MadeRun {
         output,
         layout,
         ends,

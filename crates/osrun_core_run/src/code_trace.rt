@@ -10,7 +10,7 @@ ghost use Rattle.osrun_core_run.specs.RunOf.{AreTerms, IsRunOfCode};
 ghost use Rattle.task_workers.specs.Logged.{HoldTheEnded};
 
 use crate::body_laws::{codes_give_bytes, outputs_are_bytes};
-use crate::made::Run;
+use crate::made::MadeRun;
 use crate::planning::plan_run;
 use collector::output_bytes;
 use epoch_run_bodies::TaskBodies;
@@ -27,7 +27,7 @@ use task_workers::{Gate, Logged, execute_logged};
 #[derive(Debug, Drop)]
 pub struct Traced {
     /// What the run comes to.
-    pub run: Run,
+    pub run: MadeRun,
     /// The activations that each worker ran, in its order: a list for each worker, from worker 0 on.
     pub lists: List<List<u32>>,
 }
@@ -94,7 +94,7 @@ pub fn trace_code<R: Threads + Sync, G: Gate>(
         gate,
     )?;
     let output = output_bytes(alloc, &logged.ends)?;
-    let run = Run {
+    let run = MadeRun {
         output,
         layout: planned.layout,
         ends: logged.ends,

@@ -4,7 +4,7 @@ ghost use Rattle.collector.specs.Written.{IsByteIfThere};
 ghost use Rattle.epoch_run.specs.Run.{created};
 ghost use Rattle.epoch_run_bodies.specs.Frames.{code_ends};
 ghost use Rattle.os_code.specs.Codes.{parts_of};
-ghost use Rattle.os_code.specs.Outcomes.{control};
+ghost use Rattle.os_code.specs.Outcomes.{main_control};
 ghost use Rattle.os_code.specs.Tasks.{Fits};
 ghost use Rattle.osrun_core_run.specs.RunOf.{AreTerms, budgets_of};
 ghost use Rattle.stream_match_layouts.specs.Lawful.{AreLawful};
@@ -34,7 +34,7 @@ pub fn run_in_epochs<R: Threads + Sync, G: Gate>(
     ensures layout { IfOk result (λ run. IsLayoutOf run.layout (created (parts_of code.now) input.now (budgets_of terms))) }
     ensures whole { IfOk result (λ run. IsLayout run.layout) }
     ensures input { IfOk result (λ run. run.layout.input_len ≡ length input.now) }
-    ensures control { IfOk result (λ run. run.control ≡ (control (parts_of code.now) (length input.now) terms.control_budget).end) }
+    ensures control { IfOk result (λ run. run.control ≡ (main_control (parts_of code.now) (length input.now) terms.control_budget).end) }
     ensures ends { IfOk result (λ run. run.ends
         ≡ code_ends (parts_of code.now) (created (parts_of code.now) input.now (budgets_of terms)) input.now terms.task_budget) }
     ensures fit { IfOk result (λ run. All (Fits (parts_of code.now)) (created (parts_of code.now) input.now (budgets_of terms))) }

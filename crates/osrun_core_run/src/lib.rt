@@ -42,7 +42,7 @@ pub use accepting_trace::accept_trace;
 pub use code_run::{run_code, run_code_over};
 pub use code_trace::{Traced, trace_code};
 pub use compiling::compile;
-pub use made::Run;
+pub use made::MadeRun;
 pub use replaying::{Replay, replay_program};
 pub use running::{run_program, run_program_over};
 pub use tracing::trace_program;

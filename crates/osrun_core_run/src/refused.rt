@@ -20,8 +20,8 @@ pub(crate) fn text_refusal(error: TextError) -> Refusal
     ensures { result ≡ text_refusal error }
 {
     match error {
-        TextError::Refused { code, line } => Refusal::Refused {
-            code,
+        TextError::Refused { refusal, line } => Refusal::Refused {
+            code: refusal.code(),
             line: Some(line),
         },
         TextError::Memory => Refusal::Memory,

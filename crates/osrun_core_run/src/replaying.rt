@@ -11,7 +11,7 @@ use crate::body_laws::{codes_give_bytes, outputs_are_bytes};
 use crate::code_replay::replay_code;
 use crate::compiling::compile;
 use crate::inputs::cell_place;
-use crate::made::Run;
+use crate::made::MadeRun;
 use crate::planning::Planned;
 use crate::replay_lines::{repeat_line, short_line, stranger_line, stuck_line};
 use collector::output_bytes;
@@ -27,13 +27,13 @@ use window_check::Checked;
 #[derive(Debug, Drop)]
 pub enum Replay {
     /// The lists are whole: the activations ran in an order that the lists allow, and none is left that could run. This is the run.
-    Whole(Run),
+    Whole(MadeRun),
     /// They aren't: one line, with its line feed, tells why.
     Told(String),
 }
 
 /// A planned run with its ends.
-fn ended_run(alloc: Global, planned: Planned, ends: Ends) -> Result<Run, Memory>
+fn ended_run(alloc: Global, planned: Planned, ends: Ends) -> Result<MadeRun, Memory>
     requires bytes { All IsByteIfThere ends.output }
     ensures output { IfOk result (λ run. run.output.items ≡ written ends.output) }
     ensures layout { IfOk result (λ run. run.layout ≡ planned.layout) }
@@ -41,7 +41,7 @@ fn ended_run(alloc: Global, planned: Planned, ends: Ends) -> Result<Run, Memory>
     ensures control { IfOk result (λ run. run.control ≡ planned.control.end) }
 {
     let output = output_bytes(alloc, &ends)?;
-    Ok(Run {
+    Ok(MadeRun {
         output,
         layout: planned.layout,
         ends,

@@ -5,7 +5,7 @@ ghost use Rattle.osrun_core_run.specs.RunOf.{AreTerms, IsRunOf};
 
 use crate::code_run::{run_code, run_code_over};
 use crate::compiling::compile;
-use crate::made::Run;
+use crate::made::MadeRun;
 use epoch_run_bodies::laws::agreeing_bodies_mean_one;
 use os_io::Memory;
 use osrun_core_jobs::Terms;
@@ -22,7 +22,7 @@ pub fn run_program<R: Threads + Sync, G: Gate>(
     checked: &Checked,
     input: &[u8],
     gate: &G,
-) -> Result<Run, Memory>
+) -> Result<MadeRun, Memory>
     requires within { AreTerms terms }
     requires few { length input.now ≤ input_limit }
     ensures run { IfOk result (λ run. IsRunOf terms.task_budget terms.control_budget
@@ -42,7 +42,7 @@ pub fn run_program_over<R: Threads + Sync, G: Gate>(
     checked: &Checked,
     input: Vec<u8>,
     gate: &G,
-) -> Result<Run, Memory>
+) -> Result<MadeRun, Memory>
     requires within { AreTerms terms }
     requires few { length input.items ≤ input_limit }
     ensures run { IfOk result (λ run. IsRunOf terms.task_budget terms.control_budget

@@ -6,7 +6,7 @@ use Rattle.std.specs.Str.Parse.{ParsesUnsigned, digits_value, without_leading_pl
 use Rattle.clap.specs.Words.{IsUnsignedIn, Kinds, ReadsOne, Text, fault_of, found_of, matches_of, one_text, rows_of}
 use Rattle.clap.specs.declared.parser.matches.ArgMatches.{ArgMatches}
 use Rattle.clap.proofs.WalkLemmas.{one_text-rows}
-use Rattle.osrun_core_words.specs.Arguments.{Argument, name, number, option, id_of, number_in}
+use Rattle.osrun_core_words.specs.Arguments.{Argument, name, number, option, id_of, argument_number}
 use Rattle.osrun_core_words.specs.Command.{CommandForm, app_of_form, request_by, unless}
 use Rattle.osrun_core_jobs.specs.Jobs.{Request}
 use Rattle.osrun_core_words.specs.Parsed.{IsNumber, IsNumberGiven, IsParsedBy}
@@ -61,7 +61,7 @@ read_number E G t None read only is = absurd (only t (Err read.0) read.1 (is.0, 
 pub number_read : (E : Type 0) (G : Text → Result ℕ E → Type 0) (m : ArgMatches) (a : Argument) (r : Option ℕ) → IsNumberGiven m a
     → ((t : Text) → one_text (found_of m) (id_of a) ≡ Some t → ReadsOne G t r)
     → ((u : Text) (x : Result ℕ E) → G u x → ParsesUnsigned 64 10 u x)
-    → unwrap_or r 0 ≡ number_in (rows_of (found_of m)) (id_of a)
+    → unwrap_or r 0 ≡ argument_number (rows_of (found_of m)) (id_of a)
 number_read E G m a r given read only =
     let n = given_number m a given in
     read_number E G n.0 r (read n.0 n.1) only n.2

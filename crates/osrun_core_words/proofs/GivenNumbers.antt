@@ -21,7 +21,7 @@ use Rattle.clap.proofs.CallerLemmas.{present_has_entry}
 use Rattle.clap.proofs.SimpleLemmas.{is_false, is_nil, plain_fields}
 use Rattle.clap.proofs.TakesLemmas.{present_row}
 use Rattle.clap.proofs.WalkLemmas.{both}
-use Rattle.osrun_core_words.specs.Parsed.{AreGiven, IsNumber, IsParsedBy, has_default, is_argument_of, is_number, is_number_id, is_option_of, is_required, is_required_of, is_readable}
+use Rattle.osrun_core_words.specs.Parsed.{AreSupplied, IsNumber, IsParsedBy, has_default, is_argument_of, is_number, is_number_id, is_option_of, is_required, is_required_of, is_readable}
 use Rattle.osrun_core_words.specs.Arguments.{Argument, name, number, option, simple_command}
 use Rattle.osrun_core_words.proofs.CommandParses.{is_plain_after, simple_of}
 use Rattle.osrun_core_words.proofs.ArgumentValues.{Held, held_at}
@@ -197,7 +197,7 @@ required_held app words m free p id low high e =
     required_number app words m free p low high id ids.0 ids.1 there.0 (is_false _ there.1)
 
 each_given : (app : App) (words : List Text) (m : ArgMatches) → is_simple_and_free app ≡ true → IsParsedBy app words m → (table : List Argument)
-    → list_all (is_argument_of app) table ≡ true → AreGiven m table
+    → list_all (is_argument_of app) table ≡ true → AreSupplied m table
 each_given app words m free p [] e = tt
 each_given app words m free p (name id ∷ rest) e = (tt, each_given app words m free p rest e)
 each_given app words m free p (number id low high ∷ rest) e =
@@ -211,7 +211,7 @@ pub table_simple : (word : Text) (table : List Argument) → is_readable word ta
 table_simple word table e = (both (is_simple_and_free (simple_command word table)) _ e).0
 
 pub table_given : (word : Text) (table : List Argument) (words : List Text) (m : ArgMatches) → is_readable word table ≡ true
-    → IsParsedBy (simple_command word table) words m → AreGiven m table
+    → IsParsedBy (simple_command word table) words m → AreSupplied m table
 table_given word table words m e p =
     let parts = both (is_simple_and_free (simple_command word table)) _ e in
     each_given (simple_command word table) words m parts.0 p table parts.1

@@ -45,8 +45,8 @@ abbrev pub name_in : List Row → Text → Text
 name_in rows id = unwrap_or (first_of id rows) []
 
 -- the number: the digits of its value, behind a plus or none
-abbrev pub number_in : List Row → Text → ℕ
-number_in rows id = digits_value 10 (without_leading_plus (unwrap_or (one_of id rows) []))
+abbrev pub argument_number : List Row → Text → ℕ
+argument_number rows id = digits_value 10 (without_leading_plus (unwrap_or (one_of id rows) []))
 
 -- ---- what the code's values show
 

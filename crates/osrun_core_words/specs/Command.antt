@@ -5,7 +5,8 @@ use Rattle.std.specs.Str.{bytes_eq}
 use Rattle.std.specs.declared.string.String.{String}
 use Rattle.std.specs.declared.alloc.Global.{Global}
 use Rattle.clap.specs.Words.{App, Kinds, Row, Text, fault_of, matches_of}
-use Rattle.osrun_core_words.specs.Arguments.{Argument, name, number, option, name_in, number_in, simple_command}
+use Rattle.osrun_core_words.specs.Arguments.{Argument, name, number, option, name_in, argument_number, simple_command}
+use Rattle.osrun_core_jobs.specs.Limits.{blocks_limit, seed_limit}
 use Rattle.osrun_core_jobs.specs.Jobs.{Compile, CompileJob, Exec, ExecJob, Explain, ExplainJob, Gen, GenJob, Job, Replay, ReplayJob, Request}
 use Rattle.osrun_core_jobs.specs.Jobs.{Run, Trace, TraceJob, compile_in, exec_in, explain_in, gen_in, replay_in, run_in, trace_in}
 
@@ -35,9 +36,9 @@ run_form = record {
   request = λ rows. Run (record {
     program = name_in rows (codes "PROGRAM");
     input = name_in rows (codes "INPUT");
-    workers = number_in rows (codes "workers");
-    task_budget = number_in rows (codes "budget");
-    control_budget = number_in rows (codes "control");
+    workers = argument_number rows (codes "workers");
+    task_budget = argument_number rows (codes "budget");
+    control_budget = argument_number rows (codes "control");
   });
 }
 
@@ -46,11 +47,11 @@ abbrev pub gen_form : CommandForm
 gen_form = record {
   word = codes "gen";
   arguments =
-      number (codes "SEED") 0 4294967295 ∷ number (codes "BLOCKS") 1 65536 ∷ workers ∷ [];
+      number (codes "SEED") 0 seed_limit ∷ number (codes "BLOCKS") 1 blocks_limit ∷ workers ∷ [];
   request = λ rows. Gen (record {
-    seed = number_in rows (codes "SEED");
-    blocks = number_in rows (codes "BLOCKS");
-    workers = number_in rows (codes "workers");
+    seed = argument_number rows (codes "SEED");
+    blocks = argument_number rows (codes "BLOCKS");
+    workers = argument_number rows (codes "workers");
   });
 }
 
@@ -71,9 +72,9 @@ exec_form = record {
   request = λ rows. Exec (record {
     object = name_in rows (codes "OBJECT");
     input = name_in rows (codes "INPUT");
-    workers = number_in rows (codes "workers");
-    task_budget = number_in rows (codes "budget");
-    control_budget = number_in rows (codes "control");
+    workers = argument_number rows (codes "workers");
+    task_budget = argument_number rows (codes "budget");
+    control_budget = argument_number rows (codes "control");
   });
 }
 
@@ -86,10 +87,10 @@ explain_form = record {
   request = λ rows. Explain (record {
     program = name_in rows (codes "PROGRAM");
     input = name_in rows (codes "INPUT");
-    activation = number_in rows (codes "ACTIVATION");
-    workers = number_in rows (codes "workers");
-    task_budget = number_in rows (codes "budget");
-    control_budget = number_in rows (codes "control");
+    activation = argument_number rows (codes "ACTIVATION");
+    workers = argument_number rows (codes "workers");
+    task_budget = argument_number rows (codes "budget");
+    control_budget = argument_number rows (codes "control");
   });
 }
 
@@ -102,9 +103,9 @@ trace_form = record {
   request = λ rows. Trace (record {
     program = name_in rows (codes "PROGRAM");
     input = name_in rows (codes "INPUT");
-    workers = number_in rows (codes "workers");
-    task_budget = number_in rows (codes "budget");
-    control_budget = number_in rows (codes "control");
+    workers = argument_number rows (codes "workers");
+    task_budget = argument_number rows (codes "budget");
+    control_budget = argument_number rows (codes "control");
   });
 }
 
@@ -118,8 +119,8 @@ replay_form = record {
     program = name_in rows (codes "PROGRAM");
     input = name_in rows (codes "INPUT");
     trace = name_in rows (codes "TRACE");
-    task_budget = number_in rows (codes "budget");
-    control_budget = number_in rows (codes "control");
+    task_budget = argument_number rows (codes "budget");
+    control_budget = argument_number rows (codes "control");
   });
 }
 

@@ -42,15 +42,15 @@ IsNumberFor (name id) n = ⊥
 IsNumberFor (number id least most) n = (least ≤ n) × (n ≤ most)
 IsNumberFor (option id default least most) n = (least ≤ n) × (n ≤ most)
 
--- what a parse gives an argument: of a name nothing is said here
-abbrev pub IsGiven : ArgMatches → Argument → Type 0
-IsGiven m (name id) = Unit {0}
-IsGiven m (number id least most) = IsNumberGiven m (number id least most)
-IsGiven m (option id default least most) = IsNumberGiven m (option id default least most)
+-- what a parse supplies an argument with: of a name nothing is said here
+abbrev pub IsSupplied : ArgMatches → Argument → Type 0
+IsSupplied m (name id) = Unit {0}
+IsSupplied m (number id least most) = IsNumberGiven m (number id least most)
+IsSupplied m (option id default least most) = IsNumberGiven m (option id default least most)
 
-abbrev pub AreGiven : ArgMatches → List Argument → Type 0
-AreGiven m [] = Unit {0}
-AreGiven m (a ∷ rest) = IsGiven m a × AreGiven m rest
+abbrev pub AreSupplied : ArgMatches → List Argument → Type 0
+AreSupplied m [] = Unit {0}
+AreSupplied m (a ∷ rest) = IsSupplied m a × AreSupplied m rest
 
 -- ---- arguments whose numbers can be read back
 

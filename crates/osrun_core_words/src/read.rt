@@ -1,6 +1,6 @@
 ghost use Rattle.std.specs.Prelude.{◌≡◌, ◌≤◌, IfOk, Err, None, Some};
 ghost use Rattle.clap.specs.Words.{found_of, rows_of};
-ghost use Rattle.osrun_core_words.specs.Arguments.{argument_of, id_of, name_in, number_in};
+ghost use Rattle.osrun_core_words.specs.Arguments.{argument_of, id_of, name_in, argument_number};
 ghost use Rattle.osrun_core_jobs.specs.Jobs.{IsRequestWithin, request_of};
 ghost use Rattle.osrun_core_words.specs.Command.{command, compile_form, exec_form, explain_form, gen_form};
 ghost use Rattle.osrun_core_words.specs.Command.{replay_form, request_by, run_form, texts, trace_form};
@@ -30,7 +30,7 @@ fn name_of<'w>(matches: &ArgMatches<'w>, argument: Argument<'_>) -> &'w str
 /// The number that an argument was given.
 fn number_of(matches: &ArgMatches<'_>, argument: Argument<'_>) -> u64
     requires { IsNumberGiven matches.now (argument_of argument) }
-    ensures value { result ≡ number_in (rows_of (found_of matches.now)) (id_of (argument_of argument.entry)) }
+    ensures value { result ≡ argument_number (rows_of (found_of matches.now)) (id_of (argument_of argument.entry)) }
     ensures within { IsNumberFor (argument_of argument.entry) result }
 {
     matches.get_one::<u64>(argument.id()).unwrap_or(0)

@@ -1,5 +1,6 @@
 use crate::argument::Argument;
 use flow_core_laws::{BUDGET_LIMIT, LAST_ACTIVATION, WORKERS_LIMIT};
+use osrun_core_jobs::{BLOCKS_LIMIT, SEED_LIMIT};
 
 /// A command: the first word, which picks it, and what it takes.
 #[derive(Clone, Copy)]
@@ -49,14 +50,14 @@ pub const CONTROL_BUDGET: Argument<'static> = Argument::Option {
 pub const SEED: Argument<'static> = Argument::Number {
     id: "SEED",
     least: 0,
-    most: 4_294_967_295,
+    most: SEED_LIMIT as u64,
 };
 
 /// How many blocks of four bytes are made.
 pub const BLOCKS: Argument<'static> = Argument::Number {
     id: "BLOCKS",
     least: 1,
-    most: 65_536,
+    most: BLOCKS_LIMIT as u64,
 };
 
 /// The number of an activation, in the order in which the control program creates them.

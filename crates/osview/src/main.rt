@@ -10,36 +10,14 @@ mod options;
 mod request;
 mod telling;
 
-use os_io::{HostFiles, HostSink};
+use os_io::{HostFiles, HostSink, arguments, stand_in};
 use osrun_core_jobs::Status;
 use osview_answer::{answer_graph, answer_report, answer_steps, answer_stream};
 use request::{Request, request_of};
-use std::os::fd::AsRawFd;
+use std::io;
 use std::process::ExitCode;
-use std::rt::{Env, Files};
-use std::{env, fs, io};
 use task_workers::NoGate;
 use telling::{tell_help, tell_usage, tell_version};
-
-/// How many standard streams there are: their descriptors are 0, 1 and 2.
-const STANDARD_STREAMS: i32 = 3;
-
-/// What takes the place of a standard stream that the caller closed, if there is one. Else the next file that is opened would
-/// become that stream, and a name such as `/dev/stdin` would mean this file.
-fn stand_in<R: Files>(rt: &R) -> Option<R::File>
-where
-    R::File: AsRawFd,
-{
-    let file = fs::open(rt, "/dev/null").ok()?;
-    (file.as_raw_fd() < STANDARD_STREAMS).then_some(file)
-}
-
-/// The words behind the program's name. An error where one of them isn't text, or where memory is wanting.
-fn arguments(rt: &(impl Env + AllocGlobal)) -> io::Result<Vec<String>> {
-    let mut words = env::args(rt)?;
-    let _ = words.next();
-    Ok(words.collect(rt.alloc())?)
-}
 
 fn main(rt: HostRuntime) -> ExitCode {
     let _stand_ins = [stand_in(&rt), stand_in(&rt), stand_in(&rt)];

@@ -62,7 +62,7 @@ fn range_of(word: &str) -> Option<(u64, u64)> {
 }
 
 impl Options {
-    /// No option.
+    /// The options where none is given.
     pub(crate) fn none() -> Options
         ensures { AreWithin result }
     {
@@ -74,7 +74,7 @@ impl Options {
         }
     }
 
-    /// These with one more, where there is such an option and it wasn't given before.
+    /// These options with one more, where there is such an option and it wasn't given before.
     fn with(self, name: &str, value: &str) -> Option<Options>
         requires { AreWithin self }
         ensures { IfSome result AreWithin }
@@ -131,7 +131,7 @@ impl<'w> ParsedWords<'w> {
         }
     }
 
-    /// These with one more name or number, where there are not too many.
+    /// These words with one more name or number, where there are not too many.
     fn with_name(self, name: &'w str) -> Option<ParsedWords<'w>>
         requires { AreWithin self.options }
         ensures { IfSome result (λ parsed. AreWithin parsed.options) }
@@ -148,7 +148,7 @@ impl<'w> ParsedWords<'w> {
         })
     }
 
-    /// These with one more option.
+    /// These words with one more option.
     fn with_option(self, name: &str, value: &str) -> Option<ParsedWords<'w>>
         requires { AreWithin self.options }
         ensures { IfSome result (λ parsed. AreWithin parsed.options) }

@@ -7,7 +7,7 @@ use Rattle.control_run.proofs.All.{all-few}
 use Rattle.flow_core_laws.specs.declared.activation.Activation.{Activation}
 use Rattle.os_code.specs.Codes.{parts_of}
 use Rattle.os_code.specs.Control.{ControlEnds}
-use Rattle.os_code.specs.Outcomes.{control}
+use Rattle.os_code.specs.Outcomes.{main_control}
 use Rattle.os_code.specs.Tasks.{Fits}
 use Rattle.os_code.specs.declared.code.Code.{Code}
 use Rattle.os_code.specs.declared.parts.Parts.{Parts}
@@ -25,7 +25,7 @@ module _ (code : Code) (input_len budget : ℕ) (low : budget ≤ 1000000000) (r
   pub has-ended : after.has_ended ≡ true
   has-ended =
       let few = all-few (parts_of code) code.valid input_len budget low in
-      ap (λ (r : RunSoFar). r.has_ended) same ∙ lt-ltb (length (control (parts_of code) input_len budget).activations) 4294967295 (omega (arith, few))
+      ap (λ (r : RunSoFar). r.has_ended) same ∙ lt-ltb (length (main_control (parts_of code) input_len budget).activations) 4294967295 (omega (arith, few))
 
   -- and so its steps and its turns are told
   pub no-steps-untold : StepsTold after None → ⊥
@@ -34,22 +34,22 @@ module _ (code : Code) (input_len budget : ℕ) (low : budget ≤ 1000000000) (r
   pub no-turns-untold : TurnsTold after None → ⊥
   no-turns-untold none = let e = has-ended in cc
 
-  pub steps-told : (steps : ℕ) → StepsTold after (Some steps) → ControlEnds (parts_of code) input_len budget (control (parts_of code) input_len budget) steps
+  pub steps-told : (steps : ℕ) → StepsTold after (Some steps) → ControlEnds (parts_of code) input_len budget (main_control (parts_of code) input_len budget) steps
   steps-told steps told = (subst (λ (r : RunSoFar). StepsTold r (Some steps)) same told).1
 
   pub turns-told : (turns : ℕ) → TurnsTold after (Some turns) → MainTakes (parts_of code) input_len budget turns
   turns-told turns told = (subst (λ (r : RunSoFar). TurnsTold r (Some turns)) same told).1
 
   -- it gives all activations, and they fit the code
-  pub all-given : take 4294967295 (remaining run) ≡ (control (parts_of code) input_len budget).activations
+  pub all-given : take 4294967295 (remaining run) ≡ (main_control (parts_of code) input_len budget).activations
   all-given =
       let few = all-few (parts_of code) code.valid input_len budget low in
       ap (λ (r : RunSoFar). take 4294967295 (remaining r)) begins
-      ∙ take_all 4294967295 (control (parts_of code) input_len budget).activations (omega (arith, few))
+      ∙ take_all 4294967295 (main_control (parts_of code) input_len budget).activations (omega (arith, few))
 
-  pub all-fit : All (Fits after.code) (created_so_far after) → All (Fits (parts_of code)) (control (parts_of code) input_len budget).activations
+  pub all-fit : All (Fits after.code) (created_so_far after) → All (Fits (parts_of code)) (main_control (parts_of code) input_len budget).activations
   all-fit fit =
-      let activations = (control (parts_of code) input_len budget).activations in
+      let activations = (main_control (parts_of code) input_len budget).activations in
       let few = all-few (parts_of code) code.valid input_len budget low in
       let all : created_so_far after ≡ activations = ap created_so_far same ∙ all-of activations 4294967295 (omega (arith, few)) in
       subst (λ (xs : List Activation). All (Fits (parts_of code)) xs) all

@@ -6,7 +6,7 @@ use Rattle.std.proofs.lemmas.List.{get_or_past, length-map}
 use Rattle.std.proofs.lemmas.Option.{slice_get-get_or, slice_get_cases, slice_get_past}
 use Rattle.flow_core_laws.specs.Outcome.{State}
 use Rattle.flow_core_laws.specs.declared.activation.Activation.{Activation}
-use Rattle.lowering_relation.specs.Laws.{StandsFor}
+use Rattle.lowering_relation.specs.Laws.{CodeStandsFor}
 use Rattle.lowering_relation.specs.Tasks.{TaskTree, program_tasks}
 use Rattle.os_ast.specs.Trees.{ProgramTree}
 use Rattle.os_code.specs.Tasks.{Fits}
@@ -24,7 +24,7 @@ number_of [] f k = sym (get_or_past [] k 0 (omega arith))
 number_of (x ∷ xs) f zero = refl
 number_of (x ∷ xs) f (suc k) = number_of xs f k
 
-module _ (code : Parts) (program : ProgramTree) (stands : StandsFor code program) where
+module _ (code : Parts) (program : ProgramTree) (stands : CodeStandsFor code program) where
   -- the line of a site is that of the task of its number
   same_line : (n : ℕ) → option_map_or (λ (s : Site). s.line) (slice_get code.sites n) 0
       ≡ option_map_or (λ (t : TaskTree). t.mark.line) (slice_get (program_tasks program) n) 0

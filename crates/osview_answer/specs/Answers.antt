@@ -9,7 +9,7 @@ use Rattle.osrun_core_jobs.specs.Jobs.{Job, Run}
 use Rattle.osrun_core_jobs.specs.Reading.{WereRead}
 use Rattle.osrun_core_jobs.specs.Refusal.{refusal_status}
 use Rattle.osrun_core_jobs.specs.Refuses.{Refuses}
-use Rattle.osrun_core_jobs.specs.Status.{code_of}
+use Rattle.osrun_core_jobs.specs.Status.{status_code}
 use Rattle.osrun_core_jobs.specs.declared.refusal.Refusal.{Refusal}
 use Rattle.osrun_core_jobs.specs.declared.status.Status.{Status}
 use Rattle.osrun_core_run.specs.Refusal.{IsUsable}
@@ -28,11 +28,11 @@ pub record IsGiven {F O E : Type 0} (of_files : FilesView F) (files_old files_ne
     (of_report : SinkView E) (report_old report_new : E) (job : Job) (answered : Status) : Type 0 where
   pub told : List ℕ
   pub own : Status
-  pub made : IsMade of_files files_old files_new job told (code_of own)
+  pub made : IsMade of_files files_old files_new job told (status_code own)
   pub handed : HandsOver of_out out_old out_new told of_report report_old report_new [] own answered
 
 -- One of the files is the cause, or memory was wanted; that is told, and nothing was written on the output.
-pub record IsRefused {F O E : Type 0} (of_files : FilesView F) (files_old files_new : F) (out_old out_new : O)
+pub record IsFileRefused {F O E : Type 0} (of_files : FilesView F) (files_old files_new : F) (out_old out_new : O)
     (of_report : SinkView E) (report_old report_new : E) (job : Job) (answered : Status) : Type 0 where
   pub refusal : Refusal
   pub cause : IsUnmadeOf of_files files_old files_new (files_of (Run job)) refusal
@@ -43,4 +43,4 @@ pub record IsRefused {F O E : Type 0} (of_files : FilesView F) (files_old files_
 abbrev pub AnswersReport : {F O E : Type 0} → FilesView F → F → F → SinkView O → O → O → SinkView E → E → E → Job → Status → Type 0
 AnswersReport of_files files_old files_new of_out out_old out_new of_report report_old report_new job answered =
     IsGiven of_files files_old files_new of_out out_old out_new of_report report_old report_new job answered
-    ⊎ IsRefused of_files files_old files_new out_old out_new of_report report_old report_new job answered
+    ⊎ IsFileRefused of_files files_old files_new out_old out_new of_report report_old report_new job answered

@@ -6,10 +6,10 @@ use Rattle.osrun_core_jobs.specs.Files.{files_of}
 use Rattle.osrun_core_jobs.specs.HandsOver.{HandsOver}
 use Rattle.osrun_core_jobs.specs.Jobs.{Job, Run}
 use Rattle.osrun_core_jobs.specs.Reading.{WereRead}
-use Rattle.osrun_core_jobs.specs.Status.{code_of}
+use Rattle.osrun_core_jobs.specs.Status.{status_code}
 use Rattle.osrun_core_jobs.specs.declared.status.Status.{Status}
 use Rattle.osrun_core_run.specs.Refusal.{IsUsable}
-use Rattle.osview_answer.specs.Answers.{IsRefused}
+use Rattle.osview_answer.specs.Answers.{IsFileRefused}
 use Rattle.osview_answer.specs.Drawn.{IsGraphOf}
 use Rattle.osview_graph.specs.declared.drawn.GraphChoice.{GraphChoice}
 
@@ -26,10 +26,10 @@ pub record IsGraphGiven {F O E : Type 0} (of_files : FilesView F) (files_old fil
     (of_report : SinkView E) (report_old report_new : E) (job : Job) (view : GraphChoice) (answered : Status) : Type 0 where
   pub told : List ℕ
   pub own : Status
-  pub made : IsGraphMade of_files files_old files_new job view told (code_of own)
+  pub made : IsGraphMade of_files files_old files_new job view told (status_code own)
   pub handed : HandsOver of_out out_old out_new told of_report report_old report_new [] own answered
 
 abbrev pub AnswersGraph : {F O E : Type 0} → FilesView F → F → F → SinkView O → O → O → SinkView E → E → E → Job → GraphChoice → Status → Type 0
 AnswersGraph of_files files_old files_new of_out out_old out_new of_report report_old report_new job view answered =
     IsGraphGiven of_files files_old files_new of_out out_old out_new of_report report_old report_new job view answered
-    ⊎ IsRefused of_files files_old files_new out_old out_new of_report report_old report_new job answered
+    ⊎ IsFileRefused of_files files_old files_new out_old out_new of_report report_old report_new job answered

@@ -1,18 +1,18 @@
 -- What a call leaves that was asked for a stream.
 use Rattle.std.specs.Prelude.{◌≡◌, ◌⊎◌, ℕ, List, [], ◌∷◌, ◌++◌, codes}
-use Rattle.collector.specs.Line.{line}
+use Rattle.os_io.specs.Lines.{ended_line}
 use Rattle.os_io.specs.declared.files.Files.{Ghosts as FilesView}
 use Rattle.os_io.specs.declared.sink.Sink.{Ghosts as SinkView}
 use Rattle.osrun_core_jobs.specs.Files.{files_of}
 use Rattle.osrun_core_jobs.specs.HandsOver.{HandsOver}
 use Rattle.osrun_core_jobs.specs.Jobs.{Job, Run}
 use Rattle.osrun_core_jobs.specs.Reading.{WereRead}
-use Rattle.osrun_core_jobs.specs.Status.{code_of}
+use Rattle.osrun_core_jobs.specs.Status.{status_code}
 use Rattle.osrun_core_jobs.specs.Telling.{Tells}
 use Rattle.osrun_core_jobs.specs.declared.status.Status.{Status}
 use Rattle.osrun_core_jobs.specs.declared.status.Status.TheVariants.{BadWords}
 use Rattle.osrun_core_run.specs.Refusal.{IsUsable}
-use Rattle.osview_answer.specs.Answers.{IsRefused}
+use Rattle.osview_answer.specs.Answers.{IsFileRefused}
 use Rattle.osview_answer.specs.Elements.{AreElementsOf, NamesNone}
 
 -- what is asked: the stream with this name, from a position on, and how many positions at most
@@ -23,7 +23,7 @@ pub record Asked : Type 0 where
 
 -- the line that tells that there is no stream with this name
 abbrev pub unnamed_line : List ℕ → List ℕ
-unnamed_line word = line (codes "no stream " ++ word)
+unnamed_line word = ended_line (codes "no stream " ++ word)
 
 -- Both files were read, and these are the lines of the stream in the run of the one over the other, and its status.
 pub record AreMade {F : Type 0} (of_files : FilesView F) (files_old files_new : F) (job : Job) (asked : Asked) (told : List ℕ) (own : ℕ) : Type 0 where
@@ -38,7 +38,7 @@ pub record AreGiven {F O E : Type 0} (of_files : FilesView F) (files_old files_n
     (of_report : SinkView E) (report_old report_new : E) (job : Job) (asked : Asked) (answered : Status) : Type 0 where
   pub told : List ℕ
   pub own : Status
-  pub made : AreMade of_files files_old files_new job asked told (code_of own)
+  pub made : AreMade of_files files_old files_new job asked told (status_code own)
   pub handed : HandsOver of_out out_old out_new told of_report report_old report_new [] own answered
 
 -- Both files were read, and the program has no stream with this name.
@@ -48,7 +48,7 @@ pub record IsUnnamed {F : Type 0} (of_files : FilesView F) (files_old files_new 
   pub read : WereRead IsUsable of_files files_old files_new (files_of (Run job)) (text ∷ input ∷ [])
   pub none : NamesNone text asked.name
 
--- That was told, the status is 2, and nothing was written on the output.
+-- It was told that no stream has the name, the status is 2, and nothing was written on the output.
 pub record IsToldSo {F O E : Type 0} (of_files : FilesView F) (files_old files_new : F) (out_old out_new : O)
     (of_report : SinkView E) (report_old report_new : E) (job : Job) (asked : Asked) (answered : Status) : Type 0 where
   pub unnamed : IsUnnamed of_files files_old files_new job asked
@@ -60,4 +60,4 @@ abbrev pub AnswersStream : {F O E : Type 0} → FilesView F → F → F → Sink
 AnswersStream of_files files_old files_new of_out out_old out_new of_report report_old report_new job asked answered =
     AreGiven of_files files_old files_new of_out out_old out_new of_report report_old report_new job asked answered
     ⊎ (IsToldSo of_files files_old files_new out_old out_new of_report report_old report_new job asked answered
-    ⊎ IsRefused of_files files_old files_new out_old out_new of_report report_old report_new job answered)
+    ⊎ IsFileRefused of_files files_old files_new out_old out_new of_report report_old report_new job answered)

@@ -14,7 +14,7 @@ use Rattle.osrun_core_answer.specs.Made.{IsUnmadeOf}
 use Rattle.osrun_core_jobs.specs.Files.{files_of}
 use Rattle.osrun_core_jobs.specs.Jobs.{Job, Run}
 use Rattle.osrun_core_jobs.specs.Reading.{IsFailed, Opened, WasRead}
-use Rattle.osrun_core_jobs.specs.Status.{code_of}
+use Rattle.osrun_core_jobs.specs.Status.{status_code}
 use Rattle.osrun_core_jobs.specs.declared.refusal.Refusal.{Refusal}
 use Rattle.osrun_core_jobs.specs.declared.subject.Subject.TheVariants as subjects
 use Rattle.osrun_core_run.specs.Code.{IsCodeOf}
@@ -43,4 +43,4 @@ ReadsSource view old new name result = MatchResult result
 -- both files were read and the run is told, or one of the files is the cause, or memory was wanted
 abbrev pub Makes : {F : Type 0} → FilesView F → F → F → Job → Result RunAnswer Refusal → Type 0
 Makes view old new job result = MatchResult result
-    (λ told. IsMade view old new job told.text.items (code_of told.status)) (IsUnmadeOf view old new (files_of (Run job)))
+    (λ told. IsMade view old new job told.text.items (status_code told.status)) (IsUnmadeOf view old new (files_of (Run job)))

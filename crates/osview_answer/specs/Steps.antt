@@ -42,7 +42,7 @@ pub record AreSteps (task_budget control_budget : ℕ) (program : ProgramTree) (
   pub told_is : told ≡ steps_lines (pragma_lines program) runs main longest
   pub own_is : own ≡ status (ends_of meaning) made.end
 
--- The same of the program of a text.
+-- The lines tell the steps of a run of the program of a text.
 pub record AreStepsOf (task_budget control_budget : ℕ) (text input : List ℕ) (told : List ℕ) (own : ℕ) : Type 0 where
   pub program : ProgramTree
   pub is_program : IsAccepted text program

@@ -7,7 +7,7 @@ use Rattle.os_ast.specs.declared.names.What.TheVariants as what
 use Rattle.os_lexer.specs.declared.token.Token.{Token}
 use Rattle.osview_sentences.specs.declared.stream_name.StreamName.{StreamName}
 
--- a token that is the name of so many streams from a number on
+-- a token, if there is one, as the name of the `count` streams from `first` on
 abbrev pub named_by : (first count : ℕ) → Option Token → List StreamName
 named_by first count None = []
 named_by first count (Some t) = record { first = first; count = count; start = t.start; end = t.end } ∷ []

@@ -4,7 +4,7 @@ use Rattle.os_io.specs.declared.files.Files.{Ghosts as FilesView}
 use Rattle.osrun_core_answer.specs.Made.{IsUnmadeOf}
 use Rattle.osrun_core_jobs.specs.Files.{files_of}
 use Rattle.osrun_core_jobs.specs.Jobs.{Job, Run, job_of}
-use Rattle.osrun_core_jobs.specs.Status.{code_of}
+use Rattle.osrun_core_jobs.specs.Status.{status_code}
 use Rattle.osrun_core_jobs.specs.declared.refusal.Refusal.{Refusal}
 use Rattle.osview_answer.specs.AnswersStream.{AreMade, Asked, IsUnnamed, unnamed_line}
 use Rattle.osview_answer.specs.Elements.{AreElementsOf, NamesNone}
@@ -19,12 +19,12 @@ asked_of job = record { name = job.name.now; first = job.first; count = job.coun
 -- the lines of the elements, or that there is no stream with this name
 abbrev pub IsTold : (task_budget control_budget : ℕ) → (text input : List ℕ) → Asked → StreamTold → Type 0
 IsTold task_budget control_budget text input asked (told.Elements told) =
-    AreElementsOf task_budget control_budget text input asked.name asked.first asked.count told.text.items (code_of told.status)
+    AreElementsOf task_budget control_budget text input asked.name asked.first asked.count told.text.items (status_code told.status)
 IsTold task_budget control_budget text input asked (told.Unnamed bytes) = NamesNone text asked.name × (bytes.items ≡ unnamed_line asked.name)
 
 -- both files were read, and that is told
 abbrev pub IsToldOf : {F : Type 0} → FilesView F → F → F → Job → Asked → StreamTold → Type 0
-IsToldOf view old new job asked (told.Elements told) = AreMade view old new job asked told.text.items (code_of told.status)
+IsToldOf view old new job asked (told.Elements told) = AreMade view old new job asked told.text.items (status_code told.status)
 IsToldOf view old new job asked (told.Unnamed bytes) = IsUnnamed view old new job asked × (bytes.items ≡ unnamed_line asked.name)
 
 -- both files were read and that is told, or one of the files is the cause, or memory was wanted

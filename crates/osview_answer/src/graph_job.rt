@@ -4,8 +4,7 @@ use osview_graph::GraphChoice;
 /// A run whose graph is to be shown.
 #[derive(Clone, Copy, Debug)]
 pub struct GraphJob<'w> {
-    /// The run.
     pub run: Job<'w>,
-    /// Which graph of it.
+    /// Which graph of the run.
     pub view: GraphChoice,
 }

@@ -2,7 +2,7 @@ ghost use Rattle.std.specs.Prelude.{◌≤◌, IfOk, length};
 ghost use Rattle.flow_core_laws.specs.Limits.{input_limit};
 ghost use Rattle.osrun_core_jobs.specs.Files.{MayOpen, files_of};
 ghost use Rattle.osrun_core_jobs.specs.Jobs.{IsWithin, Run as RunRequest, job_of};
-ghost use Rattle.osrun_core_jobs.specs.Status.{code_of};
+ghost use Rattle.osrun_core_jobs.specs.Status.{status_code};
 ghost use Rattle.osrun_core_run.specs.RunOf.{AreTerms};
 ghost use Rattle.osview_answer.specs.Drawn.{IsGraphOf};
 ghost use Rattle.osview_answer.specs.Graphs.{MakesGraph};
@@ -36,7 +36,7 @@ fn tell_graph<R: Threads + Sync, G: Gate>(
     requires few { length input.now ≤ input_limit }
     requires source { IsSource source.now }
     ensures { IfOk result (λ told. IsGraphOf job.now.run.terms.task_budget job.now.run.terms.control_budget source.now.text.items input.now
-        job.now.view told.text.items (code_of told.status)) }
+        job.now.view told.text.items (status_code told.status)) }
 {
     agreeing_bodies_mean_one();
     let terms = job.run.terms;

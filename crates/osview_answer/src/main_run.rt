@@ -3,7 +3,7 @@ ghost use Rattle.flow_core_laws.specs.Limits.{budget_limit, input_limit};
 ghost use Rattle.control_run.specs.Stretches.{MainTakes};
 ghost use Rattle.os_code.specs.Codes.{parts_of};
 ghost use Rattle.os_code.specs.Control.{ControlEnds};
-ghost use Rattle.os_code.specs.Outcomes.{control};
+ghost use Rattle.os_code.specs.Outcomes.{main_control};
 ghost use Rattle.os_code.specs.Tasks.{Fits};
 
 use control_run::ControlRun;
@@ -20,7 +20,7 @@ pub(crate) struct MainRun {
     pub(crate) taken: Taken,
 }
 
-/// Runs `main` of a code to its end, over an input of so many bytes.
+/// Runs `main` of a code to its end, over an input of `input_len` bytes.
 pub(crate) fn run_main(
     alloc: Global,
     code: &Code,
@@ -29,9 +29,9 @@ pub(crate) fn run_main(
 ) -> Result<MainRun, Memory>
     requires input { input_len ≤ input_limit }
     requires budget { budget ≤ budget_limit }
-    ensures activations { IfOk result (λ run. run.activations ≡ (control (parts_of code.now) input_len budget).activations) }
+    ensures activations { IfOk result (λ run. run.activations ≡ (main_control (parts_of code.now) input_len budget).activations) }
     ensures fit { IfOk result (λ run. All (Fits (parts_of code.now)) run.activations) }
-    ensures steps { IfOk result (λ run. ControlEnds (parts_of code.now) input_len budget (control (parts_of code.now) input_len budget) run.taken.steps) }
+    ensures steps { IfOk result (λ run. ControlEnds (parts_of code.now) input_len budget (main_control (parts_of code.now) input_len budget) run.taken.steps) }
     ensures turns { IfOk result (λ run. MainTakes (parts_of code.now) input_len budget run.taken.turns) }
 {
     let mut run = ControlRun::new(alloc, code, input_len, budget)?;

@@ -27,7 +27,7 @@ fn token_at(tokens: &[Token], place: u32) -> Option<Token>
     tokens.get(place as usize).copied()
 }
 
-/// Adds the name of so many streams, where there is its token.
+/// Adds the name of the `count` streams from `first` on, where there is its token.
 fn add_token(
     found: &mut Vec<StreamName>,
     first: u32,

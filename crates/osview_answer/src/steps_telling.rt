@@ -3,7 +3,7 @@ ghost use Rattle.flow_core_laws.specs.Limits.{input_limit};
 ghost use Rattle.os_ast.specs.Views.{program_tree};
 ghost use Rattle.osrun_core_jobs.specs.Files.{MayOpen, files_of};
 ghost use Rattle.osrun_core_jobs.specs.Jobs.{IsWithin, Run as RunRequest, job_of};
-ghost use Rattle.osrun_core_jobs.specs.Status.{code_of};
+ghost use Rattle.osrun_core_jobs.specs.Status.{status_code};
 ghost use Rattle.osrun_core_run.specs.RunOf.{AreTerms};
 ghost use Rattle.osview_answer.specs.AnswersSteps.{MakesSteps};
 ghost use Rattle.osview_answer.specs.Source.{IsSource};
@@ -36,7 +36,7 @@ pub(crate) fn tell_steps<R: Threads + Sync, G: Gate>(
     requires few { length input.now ≤ input_limit }
     requires source { IsSource source.now }
     ensures { IfOk result (λ told. AreSteps terms.task_budget terms.control_budget (program_tree source.now.checked.program) input.now
-        told.text.items (code_of told.status)) }
+        told.text.items (status_code told.status)) }
 {
     agreeing_bodies_mean_one();
     let run = run_code(rt, alloc, terms, &source.code, input, gate)?;

@@ -3,7 +3,7 @@ ghost use Rattle.flow_core_laws.specs.Limits.{input_limit};
 ghost use Rattle.os_ast.specs.Views.{program_tree};
 ghost use Rattle.osrun_core_jobs.specs.Files.{MayOpen, files_of};
 ghost use Rattle.osrun_core_jobs.specs.Jobs.{IsWithin, Run as RunRequest, job_of};
-ghost use Rattle.osrun_core_jobs.specs.Status.{code_of};
+ghost use Rattle.osrun_core_jobs.specs.Status.{status_code};
 ghost use Rattle.osrun_core_run.specs.RunOf.{AreTerms};
 ghost use Rattle.osview_answer.specs.AnswersStream.{unnamed_line};
 ghost use Rattle.osview_answer.specs.Elements.{AreElements};
@@ -51,7 +51,7 @@ fn tell_elements<R: Threads + Sync, G: Gate>(
     requires few { length input.now ≤ input_limit }
     requires source { IsSource source.now }
     ensures { IfOk result (λ told. AreElements job.now.run.terms.task_budget job.now.run.terms.control_budget
-        (program_tree source.now.checked.program) input.now stream job.now.first job.now.count told.text.items (code_of told.status)) }
+        (program_tree source.now.checked.program) input.now stream job.now.first job.now.count told.text.items (status_code told.status)) }
 {
     agreeing_bodies_mean_one();
     let terms = job.run.terms;

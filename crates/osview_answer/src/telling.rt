@@ -2,7 +2,7 @@ ghost use Rattle.std.specs.Prelude.{◌≤◌, IfOk, length};
 ghost use Rattle.flow_core_laws.specs.Limits.{input_limit};
 ghost use Rattle.osrun_core_jobs.specs.Files.{MayOpen, files_of};
 ghost use Rattle.osrun_core_jobs.specs.Jobs.{IsWithin, Run as RunRequest, job_of};
-ghost use Rattle.osrun_core_jobs.specs.Status.{code_of};
+ghost use Rattle.osrun_core_jobs.specs.Status.{status_code};
 ghost use Rattle.osrun_core_run.specs.RunOf.{AreTerms};
 ghost use Rattle.osview_answer.specs.Source.{IsSource, Makes};
 ghost use Rattle.osview_answer.specs.Told.{IsReportOf};
@@ -41,7 +41,7 @@ pub(crate) fn tell_run<R: Threads + Sync, G: Gate>(
     requires few { length input.now ≤ input_limit }
     requires source { IsSource source.now }
     ensures { IfOk result (λ told. IsReportOf terms.task_budget terms.control_budget source.now.text.items input.now
-        told.text.items (code_of told.status)) }
+        told.text.items (status_code told.status)) }
 {
     agreeing_bodies_mean_one();
     let tokens = tokens_of(alloc, &source.text)?;

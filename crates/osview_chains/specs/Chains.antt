@@ -22,7 +22,7 @@ abbrev pub IsChain : (ℕ → List Source) → List (Option ℕ) → List ℕ �
 IsChain reads steps [] = Unit {0}
 IsChain reads steps (a ∷ chain) = IsChainFrom reads steps a chain
 
--- A longest chain takes so many steps: there is one with as many, and no other one takes more. `steps` has those of each one that ran.
+-- A longest chain takes `longest` steps: there is one with as many, and no other one takes more. `steps` has those of each activation that ran.
 pub record IsLongest (reads : ℕ → List Source) (steps : List (Option ℕ)) (longest : ℕ) : Type 0 where
   pub chain : List ℕ
   pub is_chain : IsChain reads steps chain

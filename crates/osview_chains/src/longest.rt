@@ -9,7 +9,7 @@ use flow_core_laws::{FramePlan, Plan};
 use os_io::{List, Memory};
 use std::alloc::Global;
 
-/// So many zeros.
+/// A list of `count` zeros.
 fn zeros(alloc: Global, count: usize) -> Result<List<u128>, Memory>
     ensures many { IfOk result (λ list. length list ≡ count) }
     ensures zeros { IfOk result (λ list. (k : ℕ) → slice_index list k ≡ 0) }

@@ -5,7 +5,8 @@ use Rattle.std.proofs.lemmas.Bool.{cases_lt}
 use Rattle.std.proofs.lemmas.List.{get_or_past, get_or_default}
 use Rattle.flow_core_laws.specs.Window.{Window, windows}
 use Rattle.osview_graph.specs.Drawing.{IsDrawn, run_of}
-use Rattle.osview_graph.specs.DrawnRun.{end_at, is_done}
+use Rattle.collector.specs.Status.{has_done}
+use Rattle.osview_graph.specs.DrawnRun.{end_at}
 use Rattle.osview_graph.specs.Streams.{no_window, window_at, written_by}
 use Rattle.osview_graph.specs.declared.drawn.Drawn.{Drawn}
 use Rattle.stream_match_layouts.specs.Layout.{span_of}
@@ -53,7 +54,7 @@ module _ (drawn : Drawn) (is : IsDrawn drawn) where
 
   -- what a window gives is no more than it covers
   pub given-le : (k : ℕ) → written_by (run_of drawn) (window_at (run_of drawn) k) ≤ 65536
-  given-le k = by (window_at (run_of drawn) k).claim.write (is_done (end_at (run_of drawn) (window_at (run_of drawn) k).activation)) where
+  given-le k = by (window_at (run_of drawn) k).claim.write (has_done (end_at (run_of drawn) (window_at (run_of drawn) k).activation)) where
     by : (b d : Bool) → cond {A = ℕ} (b && d) (window_at (run_of drawn) k).claim.horizon 0 ≤ 65536
     by true true = largest k
     by true false = omega arith

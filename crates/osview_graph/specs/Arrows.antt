@@ -1,5 +1,5 @@
 -- The arrows between tasks and streams.
-use Rattle.std.specs.Prelude.{ℕ, ◌==◌, ◌&&◌, Bool, if◌then◌else◌, List, [], ◌∷◌, ◌++◌, codes, filter, length, map, max, min, slice_get, take}
+use Rattle.std.specs.Prelude.{ℕ, ◌==◌, ◌&&◌, Bool, if◌then◌else◌, List, [], ◌∷◌, ◌++◌, codes, filter, length, map, max, slice_get, take}
 use Rattle.std.specs.Fmt.{decimal}
 use Rattle.std.specs.List.{flat_map, fold, list_any, range_with_len}
 use Rattle.std.specs.Option.{option_map_or}
@@ -8,6 +8,7 @@ use Rattle.flow_core_laws.specs.declared.activation.Activation.{Activation}
 use Rattle.flow_core_laws.specs.declared.claim.Claim.{Claim}
 use Rattle.osview_graph.specs.DrawnRun.{DrawnRun}
 use Rattle.osview_graph.specs.declared.uses.Use.{Use}
+use Rattle.osview_text.specs.Numbers.{least}
 
 -- an item of a task's clauses as an activation has it, by its claim
 abbrev pub use_of : (task item : ℕ) → Claim → Use
@@ -25,11 +26,7 @@ uses activations = flat_map uses_of activations
 abbrev pub is_alike : Use → Use → Bool
 is_alike u v = (v.task == u.task) && (v.item == u.item) && (v.stream == u.stream)
 
--- the least of some numbers, and the greatest; 0 where there are none
-abbrev pub least : List ℕ → ℕ
-least [] = 0
-least (n ∷ ns) = fold min n ns
-
+-- the greatest of some numbers; 0 where there are none
 abbrev pub greatest : List ℕ → ℕ
 greatest [] = 0
 greatest (n ∷ ns) = fold max n ns

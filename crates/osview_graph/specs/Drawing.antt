@@ -1,7 +1,8 @@
 -- A run as the code has it, by its layout.
 use Rattle.std.specs.Prelude.{Bool, Option, true}
 use Rattle.flow_core_laws.specs.declared.task_end.TaskEnd.{TaskEnd}
-use Rattle.osview_graph.specs.DrawnRun.{DrawnRun, is_done, is_over_budget, is_poisoned, is_starved, is_trapped}
+use Rattle.collector.specs.Status.{has_done}
+use Rattle.osview_graph.specs.DrawnRun.{DrawnRun, is_over_budget, is_poisoned, is_starved, is_trapped}
 use Rattle.osview_graph.specs.declared.drawn.Drawn.{Drawn}
 use Rattle.osview_graph.specs.declared.ending.Ending.{Ending}
 use Rattle.osview_graph.specs.declared.ending.Ending.TheVariants as ending
@@ -31,7 +32,7 @@ pub record IsDrawn (drawn : Drawn) : Type 0 where
 -- how activations end that are counted
 abbrev pub is_so : Ending → Option TaskEnd → Bool
 is_so ending.Any = λ _. true
-is_so ending.Done = is_done
+is_so ending.Done = has_done
 is_so ending.Trapped = is_trapped
 is_so ending.OverBudget = is_over_budget
 is_so ending.Poisoned = is_poisoned

@@ -26,15 +26,7 @@ end_at run a = slice_index_or run.ends a None
 abbrev pub task_at : DrawnRun → ℕ → ℕ
 task_at run a = option_map_or (λ (x : Activation). x.site) (slice_get run.activations a) 0
 
--- whether an activation with this end, or none, is done
-abbrev pub is_done : Option TaskEnd → Bool
-is_done None = false
-is_done (Some Done) = true
-is_done (Some (Trapped code line)) = false
-is_done (Some OverBudget) = false
-is_done (Some (Poisoned root)) = false
-
--- whether it trapped
+-- whether an activation with this end, or none, trapped
 abbrev pub is_trapped : Option TaskEnd → Bool
 is_trapped None = false
 is_trapped (Some Done) = false
@@ -79,7 +71,7 @@ end_word (Some (Trapped code line)) = codes "trapped"
 end_word (Some OverBudget) = codes "out of turns"
 end_word (Some (Poisoned root)) = codes "poisoned"
 
--- the sum of the amounts of those that belong to one, of so many that are numbered from 0 on
+-- the sum of the amounts of those that belong to `one`, of the `count` that are numbered from 0 on
 abbrev pub total : (belongs_to amount : ℕ → ℕ) → (count one : ℕ) → ℕ
 total belongs_to amount count one = sum_by (λ k. if belongs_to k == one then amount k else 0) (range_with_len 0 count)
 

@@ -3,7 +3,8 @@ use Rattle.std.specs.Prelude.{ℕ, ◌+◌, ◌-◌, ◌==◌, ◌&&◌, Bool, n
 use Rattle.std.specs.Fmt.{decimal}
 use Rattle.std.specs.List.{flat_map, list_any, range_with_len}
 use Rattle.flow_core_laws.specs.Window.{Window, no_claim, windows}
-use Rattle.osview_graph.specs.DrawnRun.{DrawnRun, end_at, has_run, is_done, total}
+use Rattle.collector.specs.Status.{has_done}
+use Rattle.osview_graph.specs.DrawnRun.{DrawnRun, end_at, has_run, total}
 use Rattle.osview_sentences.specs.Names.{stream_text}
 
 -- what stands for a window where there is none
@@ -24,11 +25,11 @@ window_count run stream = total (stream_at run) (λ k. 1) (length (windows run.a
 
 -- how many elements a window wrote: all that it covers, where the activation is done; poison is none
 abbrev pub written_by : DrawnRun → Window → ℕ
-written_by run w = if w.claim.write && is_done (end_at run w.activation) then w.claim.horizon else 0
+written_by run w = if w.claim.write && has_done (end_at run w.activation) then w.claim.horizon else 0
 
 -- How many elements of a stream are there: as many as the input has, or those that windows wrote.
-abbrev pub written : DrawnRun → (stream : ℕ) → ℕ
-written run stream =
+abbrev pub element_count : DrawnRun → (stream : ℕ) → ℕ
+element_count run stream =
     if stream == 0 then run.input_len
     else total (stream_at run) (λ k. written_by run (window_at run k)) (length (windows run.activations)) stream
 
@@ -62,7 +63,7 @@ elements_text stream written read =
 abbrev pub ellipse : DrawnRun → (stream : ℕ) → List ℕ
 ellipse run stream =
     codes "  stream" ++ decimal stream ++ codes " [shape=ellipse, label=\"" ++ stream_text run.text run.names stream ++ codes "\\n"
-    ++ elements_text stream (written run stream) (read run stream) ++ codes "\"];\n"
+    ++ elements_text stream (element_count run stream) (read run stream) ++ codes "\"];\n"
 
 -- The ellipse of a stream on which activations have windows.
 abbrev pub ellipse_if_used : DrawnRun → (stream : ℕ) → List ℕ

@@ -2,12 +2,13 @@
 use Rattle.std.specs.Prelude.{ℕ, if◌then◌else◌, List, [], ◌∷◌, ◌++◌, Option, None, Some, codes, map, max, min}
 use Rattle.std.specs.BTreeMap.{get}
 use Rattle.std.specs.Option.{option_map_or}
-use Rattle.osview_graph.specs.Arrows.{greatest, least, reading_text, span_text, writing_text}
+use Rattle.osview_graph.specs.Arrows.{greatest, reading_text, span_text, writing_text}
 use Rattle.osview_graph.specs.contracts.tally.ItemOrd.TheImpl as item_order
 use Rattle.osview_graph.specs.declared.tally.Item.{Item}
 use Rattle.osview_graph.specs.declared.tally.Sizes.{Sizes}
 use Rattle.osview_graph.specs.declared.tally.Tally.{Tally}
 use Rattle.osview_graph.specs.declared.uses.Use.{Use}
+use Rattle.osview_text.specs.Numbers.{least}
 
 -- what uses have in common that are alike
 abbrev pub item_of : Use → Item
@@ -23,7 +24,7 @@ sizes_of (u ∷ us) = Some (record {
   greatest_burst = greatest (map (λ (v : Use). v.burst) (u ∷ us));
 })
 
--- those of one more
+-- the least and the greatest sizes with those of one more use
 abbrev pub with_use : Option Sizes → Use → Sizes
 with_use None u = record { least_horizon = u.horizon; greatest_horizon = u.horizon; least_burst = u.burst; greatest_burst = u.burst }
 with_use (Some s) u = record {

@@ -2,7 +2,8 @@
 use Rattle.std.specs.Prelude.{ℕ, ◌==◌, true, if◌then◌else◌, List, [], ◌++◌, codes, length, slice_index_or}
 use Rattle.std.specs.Fmt.{decimal}
 use Rattle.std.specs.List.{flat_map, range_with_len}
-use Rattle.osview_graph.specs.DrawnRun.{DrawnRun, ended_so, is_done, is_over_budget, is_poisoned, is_starved, is_trapped}
+use Rattle.collector.specs.Status.{has_done}
+use Rattle.osview_graph.specs.DrawnRun.{DrawnRun, ended_so, is_over_budget, is_poisoned, is_starved, is_trapped}
 
 -- how many activations a task has
 abbrev pub activations_text : ℕ → List ℕ
@@ -26,7 +27,7 @@ task_head run task =
 -- how many activations of a task ended how
 abbrev pub task_ends : DrawnRun → (task : ℕ) → List ℕ
 task_ends run task =
-    ends_text (ended_so run is_done task) (ended_so run is_trapped task) (ended_so run is_over_budget task)
+    ends_text (ended_so run has_done task) (ended_so run is_trapped task) (ended_so run is_over_budget task)
     (ended_so run is_poisoned task) (ended_so run is_starved task)
 
 -- The box of a task: the line of its pragma, how many activations it has, and how many of them ended how.

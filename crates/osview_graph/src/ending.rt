@@ -1,7 +1,8 @@
 ghost use Rattle.std.specs.Prelude.{◌≡◌};
 ghost use Rattle.osview_graph.specs.Drawing.{is_so};
-ghost use Rattle.osview_graph.specs.DrawnRun.{end_word, has_run, is_done};
+ghost use Rattle.osview_graph.specs.DrawnRun.{end_word, has_run};
 
+use collector::has_done;
 use flow_core_laws::TaskEnd;
 
 /// How activations end that are counted.
@@ -24,7 +25,7 @@ impl Ending {
     {
         match self {
             Ending::Any => true,
-            Ending::Done => is_done(end),
+            Ending::Done => has_done(&end),
             Ending::Trapped => matches!(end, Some(TaskEnd::Trapped { .. })),
             Ending::OverBudget => matches!(end, Some(TaskEnd::OverBudget)),
             Ending::Poisoned => matches!(end, Some(TaskEnd::Poisoned { .. })),
@@ -33,14 +34,7 @@ impl Ending {
     }
 }
 
-/// Whether an activation with this end, or none, is done.
-pub(crate) fn is_done(end: Option<TaskEnd>) -> bool
-    ensures { result ≡ is_done end }
-{
-    matches!(end, Some(TaskEnd::Done))
-}
-
-/// Whether it ran.
+/// Whether an activation with this end, or none, ran its body.
 pub(crate) fn has_run(end: Option<TaskEnd>) -> bool
     ensures { result ≡ has_run end }
 {

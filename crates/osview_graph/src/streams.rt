@@ -1,14 +1,15 @@
 ghost use Rattle.std.specs.Prelude.{◌≡◌, ◌<◌, ◌++◌, ◌+◌, ◌^◌, IfOk, OnOk};
 ghost use Rattle.osview_graph.specs.Drawing.{IsDrawn, run_of};
-ghost use Rattle.osview_graph.specs.Streams.{elements_text, ellipse, ellipse_if_used, ellipses, has_read, read, window_count, written, written_by};
+ghost use Rattle.osview_graph.specs.Streams.{elements_text, ellipse, ellipse_if_used, ellipses, has_read, read, window_count, element_count, written_by};
 ghost use Rattle.osview_graph.specs.Tables.{AreStreamCounts, newly_behind, read_to, table};
 ghost use Rattle.flow_core_laws.specs.Window.{Window};
 ghost use Rattle.stream_match_layouts.specs.Layout.{span_of};
 
 use crate::drawn::Drawn;
-use crate::ending::{has_run, is_done};
+use crate::ending::has_run;
 use crate::labels::add_name;
 use crate::tables::{raise, row, set_row, zeros};
+use collector::has_done;
 use os_io::Memory;
 use osview_text::Text;
 use std::alloc::Global;
@@ -42,7 +43,7 @@ fn count_windows(alloc: Global, drawn: &Drawn<'_>) -> Result<Vec<u64>, Memory>
 fn written_by(drawn: &Drawn<'_>, span: Span) -> u64
     ensures { (w : Window) → span ≡ span_of w → result ≡ written_by (run_of drawn.now) w }
 {
-    if span.write && is_done(drawn.end_at(u64::from(span.frame))) {
+    if span.write && has_done(&drawn.end_at(u64::from(span.frame))) {
         u64::from(span.count)
     } else {
         0
@@ -52,7 +53,7 @@ fn written_by(drawn: &Drawn<'_>, span: Span) -> u64
 /// How many elements of each stream are there.
 fn count_written(alloc: Global, drawn: &Drawn<'_>) -> Result<Vec<u64>, Memory>
     requires { IsDrawn drawn.now }
-    ensures { IfOk result (λ counts. counts.items ≡ table (written (run_of drawn.now)) (drawn.now.streams)) }
+    ensures { IfOk result (λ counts. counts.items ≡ table (element_count (run_of drawn.now)) (drawn.now.streams)) }
 {
     let mut counts = zeros(alloc, drawn.streams as usize)?;
     for span in drawn.layout.spans.as_slice() {

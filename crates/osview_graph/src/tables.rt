@@ -3,7 +3,7 @@ ghost use Rattle.std.specs.Prelude.{◌≡◌, ◌+◌, ◌^◌, ◌<◌, IfOk, 
 use os_io::Memory;
 use std::alloc::Global;
 
-/// A table of so many zeros.
+/// A table of `count` zeros.
 pub(crate) fn zeros(alloc: Global, count: usize) -> Result<Vec<u64>, Memory>
     ensures { IfOk result (λ table. table.items ≡ replicate count 0) }
 {

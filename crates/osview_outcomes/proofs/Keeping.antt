@@ -9,7 +9,7 @@ use Rattle.flow_core_laws.specs.declared.plan.FramePlan.{FramePlan}
 use Rattle.flow_core_laws.specs.declared.plan.Plan.{Plan}
 use Rattle.flow_core_laws.specs.declared.task_end.TaskEnd.{TaskEnd}
 use Rattle.flow_core_laws.specs.declared.task_end.TaskEnd.TheVariants.{Done}
-use Rattle.flow_core.specs.Shows.{Gives, Reads, end_at}
+use Rattle.flow_core.specs.Shows.{HasOutcome, Reads, end_at}
 use Rattle.osview_outcomes.specs.Kept.{AreKept}
 
 -- nothing has an end at the opening
@@ -40,7 +40,7 @@ module _ (plan : Plan) (m : State) (ends new_ends : List (Option TaskEnd)) (f : 
   -- what one more frame read and wrote is kept
   pub one_more : (inputs new_inputs outputs new_outputs : List (List ℤ)) (read written : List ℤ) → AreKept plan m ends inputs outputs
       → f < length inputs → f < length outputs → new_inputs ≡ set inputs f read → new_outputs ≡ set outputs f written
-      → Reads plan m f read → Gives m f e written → AreKept plan m new_ends new_inputs new_outputs
+      → Reads plan m f read → HasOutcome m f e written → AreKept plan m new_ends new_inputs new_outputs
   one_more inputs new_inputs outputs new_outputs read written old in_inputs in_outputs inputs_are outputs_are reads (given, meant, o_end, o_outputs) = record {
     read = λ g some. read_at g some (cases_eq g f);
     written = λ g o some is done. written_at g o some is done (cases_eq g f);

@@ -59,7 +59,7 @@ fn run_all<B: Bodies>(
     Ok(())
 }
 
-/// So many empty lists.
+/// A list of `count` empty lists.
 fn empty_lists(alloc: Global, count: usize) -> Result<List<List<i32>>, Memory>
     ensures { IfOk result (λ lists. length lists ≡ count) }
 {

@@ -7,7 +7,7 @@ use Rattle.std.proofs.lemmas.Option.{slice_get-get_or}
 use Rattle.std.specs.Prelude.{◌==◌}
 use Rattle.std.specs.List.{flat_map, list_any, range_with_len}
 use Rattle.std.specs.Option.{option_map_or}
-use Rattle.collector.specs.Line.{line}
+use Rattle.os_io.specs.Lines.{ended_line}
 use Rattle.osview_sentences.specs.Readers.{also_text}
 use Rattle.osview_sentences.specs.Report.{line_at, more_text, told_at}
 use Rattle.osview_sentences.specs.Sentences.{is_alike, is_same, is_supplied_so, sentence_text}
@@ -79,7 +79,7 @@ module _ (text : List ℕ) (names : List StreamName) (spans : List Span) (lines 
       → count ≡ cond b 0 (count_by (is_alike s) all) → told_for text names spans lines s count ≡ told_at text names spans lines all i s
   told_so all i s count true among is e = ap (told_for text names spans lines s) e ∙ when_among (list_any (is_alike s) (take i all)) true _ among
   told_so all i s count false among is e =
-      told_count (λ (more : ℕ). line (sentence_text text names s ++ also_text spans lines s.task_line s.fact ++ more_text more)) count (count_by (is_alike s) (drop (i + 1) all)) (e ∙ is refl)
+      told_count (λ (more : ℕ). ended_line (sentence_text text names s ++ also_text spans lines s.task_line s.fact ++ more_text more)) count (count_by (is_alike s) (drop (i + 1) all)) (e ∙ is refl)
       ∙ when_among (list_any (is_alike s) (take i all)) false _ among
 
   -- what is told of a sentence for those that are left

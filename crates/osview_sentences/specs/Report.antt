@@ -3,7 +3,9 @@ use Rattle.std.specs.Prelude.{ℕ, ◌+◌, ◌==◌, if◌then◌else◌, List,
 use Rattle.std.specs.Fmt.{decimal}
 use Rattle.std.specs.List.{flat_map, list_any, range_with_len}
 use Rattle.std.specs.Option.{option_map_or}
-use Rattle.collector.specs.Line.{line}
+use Rattle.c_int.specs.ControlLimits.{limit_code}
+use Rattle.c_int.specs.declared.control_limit.ControlLimit.TheVariants.{Activations}
+use Rattle.os_io.specs.Lines.{ended_line}
 use Rattle.collector.specs.Status.{has_done}
 use Rattle.collector.specs.Written.{written}
 use Rattle.flow_core_laws.specs.Place.{written_count}
@@ -30,7 +32,7 @@ more_text more = if more == 0 then [] else likewise_text more
 abbrev pub told_at : List ℕ → List StreamName → List Span → (lines : List ℕ) → List Sentence → (place : ℕ) → Sentence → List ℕ
 told_at text names spans lines all place s =
     if list_any (is_alike s) (take place all) then []
-    else line (sentence_text text names s ++ also_text spans lines s.task_line s.fact ++ more_text (count_by (is_alike s) (drop (place + 1) all)))
+    else ended_line (sentence_text text names s ++ also_text spans lines s.task_line s.fact ++ more_text (count_by (is_alike s) (drop (place + 1) all)))
 
 abbrev pub line_at : List ℕ → List StreamName → List Span → (lines : List ℕ) → List Sentence → (place : ℕ) → List ℕ
 line_at text names spans lines all place = option_map_or (told_at text names spans lines all place) (slice_get all place) []
@@ -46,7 +48,7 @@ created_text count = codes " after " ++ decimal count ++ activation_word count
 -- what stopped `main` at a limit
 abbrev pub limit_text : ℕ → List ℕ
 limit_text limit =
-    if limit == 1 then codes ", as many as there may be: larger blocks need fewer"
+    if limit == limit_code Activations then codes ", as many as there may be: larger blocks need fewer"
     else codes ": the windows of one more would cover more than 4194304 elements in all"
 
 -- how `main` ended
@@ -64,9 +66,9 @@ share_text some all what = decimal some ++ codes " of " ++ decimal all ++ what
 -- how `main` ended, how many activations are done, and how many bytes of the output are there
 abbrev pub heading : ControlEnd → (activations done there claimed : ℕ) → List ℕ
 heading control activations done there claimed =
-    line (control_text control activations)
-    ++ line (share_text done activations (codes " activations are done"))
-    ++ line (share_text there claimed (codes " bytes of the output are there"))
+    ended_line (control_text control activations)
+    ++ ended_line (share_text done activations (codes " activations are done"))
+    ++ ended_line (share_text there claimed (codes " bytes of the output are there"))
 
 -- The report, over the text of a program, the names of its streams, and the line of each activation's task: how `main` ended,
 -- how many activations are done, how many bytes of the output are there, and what became of the other activations.

@@ -1,7 +1,7 @@
 -- How many sentences are left to be told, by what they have in common.
 use Rattle.std.specs.Prelude.{ℕ, ◌-◌, ◌==◌, if◌then◌else◌, List, [], ◌++◌, unwrap_or}
 use Rattle.std.specs.BTreeMap.{get}
-use Rattle.collector.specs.Line.{line}
+use Rattle.os_io.specs.Lines.{ended_line}
 use Rattle.osview_sentences.specs.Readers.{also_text}
 use Rattle.osview_sentences.specs.Report.{more_text}
 use Rattle.osview_sentences.specs.Sentences.{sentence_text}
@@ -42,8 +42,8 @@ likeness s = record { task_line = s.task_line; what = what_of s.fact }
 abbrev pub left : Tally → Sentence → ℕ
 left tally s = unwrap_or (get (likeness_order.ghosts).cmp tally.counts (likeness s)) 0
 
--- a sentence for so many that are alike, if there are any
+-- one sentence for `count` activations that are alike, if there are any
 abbrev pub told_for : List ℕ → List StreamName → List Span → (lines : List ℕ) → Sentence → (count : ℕ) → List ℕ
 told_for text names spans lines s count =
     if count == 0 then []
-    else line (sentence_text text names s ++ also_text spans lines s.task_line s.fact ++ more_text (count - 1))
+    else ended_line (sentence_text text names s ++ also_text spans lines s.task_line s.fact ++ more_text (count - 1))

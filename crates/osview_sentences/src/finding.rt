@@ -77,7 +77,7 @@ fn fact_of(layout: &Layout, ends: &Ends, frame: u32) -> Option<Fact>
 }
 
 /// The line of an activation's task.
-pub(crate) fn line_of(lines: &[u32], frame: u32) -> u32
+pub fn line_of(lines: &[u32], frame: u32) -> u32
     ensures { result ≡ slice_index_or lines.now frame 0 }
 {
     match lines.get(frame as usize) {

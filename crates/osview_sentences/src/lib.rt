@@ -19,5 +19,6 @@ mod tally;
 mod wording;
 
 pub use fact::{Fact, Sentence, Supply};
+pub use finding::line_of;
 pub use report::report_text;
 pub use stream_name::{StreamName, name_of};

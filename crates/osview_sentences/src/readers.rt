@@ -69,7 +69,7 @@ impl Readers {
     ghost use Rattle.std.specs.Prelude.{None};
     ghost use Rattle.osview_sentences.specs.FirstReaders.{line_if_reads, lines_of, with_line_at};
 
-    /// No claim.
+    /// The readers before any claim.
     fn new(alloc: Global) -> Readers
         ensures { (stream : ℕ) → lines_of result stream ≡ None }
     {
@@ -94,7 +94,7 @@ impl Readers {
         Ok(())
     }
 
-    /// One more claim.
+    /// Notes one more claim, if it reads.
     fn note(&mut self, lines: &[u32], span: Span) -> Result<(), Memory>
         ensures { OnOk result ((stream at : ℕ) → found self.new stream at ≡ option_or (found self.old stream at) (line_if_reads lines.now stream at span)) }
     {
@@ -105,7 +105,7 @@ impl Readers {
         }
     }
 
-    /// Those of some claims, by the line of each activation's task.
+    /// The readers among some claims, by the line of each activation's task.
     pub(crate) fn of(alloc: Global, spans: &[Span], lines: &[u32]) -> Result<Readers, Memory>
         ensures { IfOk result (AreReaders spans.now lines.now) }
     {

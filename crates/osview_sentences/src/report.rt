@@ -2,7 +2,7 @@ ghost use Rattle.std.specs.Prelude.{◌≡◌, ◌++◌, List, IfOk, OnOk, count
 ghost use Rattle.c_int.specs.ControlLimits.{limit_code};
 ghost use Rattle.collector.specs.Status.{has_done};
 ghost use Rattle.collector.specs.Written.{written};
-ghost use Rattle.collector.specs.Line.{line};
+ghost use Rattle.os_io.specs.Lines.{ended_line};
 ghost use Rattle.flow_core_laws.specs.declared.activation.Activation.{Activation};
 ghost use Rattle.flow_core_laws.specs.Place.{written_count};
 ghost use Rattle.osview_sentences.specs.Report.{control_text, created_text, heading, likewise_text, limit_text};
@@ -139,7 +139,7 @@ fn add_control(told: &mut Text, control: ControlEnd, count: u64) -> Result<(), M
 
 /// Adds the line that tells how `main` ended.
 fn add_control_line(told: &mut Text, control: ControlEnd, count: u64) -> Result<(), Memory>
-    ensures { OnOk result (told.new ≡ told.old ++ line (control_text control count)) }
+    ensures { OnOk result (told.new ≡ told.old ++ ended_line (control_text control count)) }
 {
     add_control(told, control, count)?;
     told.add(b"\n")
@@ -147,7 +147,7 @@ fn add_control_line(told: &mut Text, control: ControlEnd, count: u64) -> Result<
 
 /// Adds a line that tells how many there are of how many.
 fn add_share_line(told: &mut Text, some: u64, all: u64, what: &[u8]) -> Result<(), Memory>
-    ensures { OnOk result (told.new ≡ told.old ++ line (share_text some all what.now)) }
+    ensures { OnOk result (told.new ≡ told.old ++ ended_line (share_text some all what.now)) }
 {
     told.number(some)?;
     told.field(b" of ", all)?;
@@ -171,7 +171,7 @@ fn add_sentence_line(
     more: u64,
 ) -> Result<(), Memory>
     requires { AreReaders over.now.spans.now over.now.lines.now over.now.readers.now }
-    ensures { OnOk result (told.new ≡ told.old ++ line (sentence_text over.now.text.now over.now.names.now sentence
+    ensures { OnOk result (told.new ≡ told.old ++ ended_line (sentence_text over.now.text.now over.now.names.now sentence
         ++ also_text over.now.spans.now over.now.lines.now sentence.task_line sentence.fact ++ more_text more)) }
 {
     add_sentence(told, over.text, over.names, sentence)?;
@@ -181,7 +181,7 @@ fn add_sentence_line(
     Ok(())
 }
 
-/// Adds the line of a sentence for so many that are alike, if there are any.
+/// Adds the line of one sentence for `count` activations that are alike, if there are any.
 fn add_told_for(
     told: &mut Text,
     over: &Context<'_>,

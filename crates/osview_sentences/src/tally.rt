@@ -16,7 +16,7 @@ impl Tally {
     ghost use Rattle.osview_sentences.specs.Tally.{left};
     ghost use Rattle.osview_sentences.specs.declared.fact.Sentence.{Sentence};
 
-    /// No sentence.
+    /// A tally without sentences.
     fn new(alloc: Global) -> Tally
         ensures { (s : Sentence) → left result s ≡ 0 }
     {
@@ -32,7 +32,7 @@ impl Tally {
         self.counts.get(&sentence.likeness()).copied().unwrap_or(0)
     }
 
-    /// One more sentence.
+    /// Counts one more sentence.
     fn add(&mut self, sentence: Sentence) -> Result<(), Memory>
         requires { left self.old sentence + 1 < 2 ^ 64 }
         ensures { OnOk result ((s : Sentence) → left self.new s
@@ -43,7 +43,7 @@ impl Tally {
         Ok(())
     }
 
-    /// Some sentences.
+    /// Counts sentences by their likeness.
     pub(crate) fn of(alloc: Global, all: &[Sentence]) -> Result<Tally, Memory>
         ensures { IfOk result (λ tally. (s : Sentence) → left tally s ≡ count_by (is_alike s) all.now) }
     {

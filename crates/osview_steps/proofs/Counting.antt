@@ -8,10 +8,11 @@ use Rattle.std.proofs.lemmas.List.{get_or-set_other, get_or-set_same, map-append
 use Rattle.std.proofs.lemmas.List.Elements.{filter_map-append}
 use Rattle.std.proofs.lemmas.List.Sums.{sum_by-append, sum_by-cons}
 use Rattle.osview_steps.specs.Counting.{IsSmall, IsTallyOf, counted, nothing_counted}
-use Rattle.osview_steps.specs.Tallies.{activation_count, all_steps, least, steps_in, taken_by, turns_in}
+use Rattle.osview_steps.specs.Tallies.{activation_count, all_steps, steps_in, taken_by, turns_in}
 use Rattle.osview_steps.specs.Steps.{steps_if}
 use Rattle.osview_steps.specs.declared.runs.Taken.{Taken}
 use Rattle.osview_steps.specs.declared.runs.TaskRun.{TaskRun}
+use Rattle.osview_text.specs.Numbers.{least}
 use Rattle.osview_steps.specs.declared.tally.Tally.{Tally}
 
 -- what one more activation makes of a task's tally
@@ -23,7 +24,7 @@ abbrev least_or : ℕ → List ℕ → ℕ
 least_or n [] = n
 least_or n (m ∷ ms) = fold min m ms
 
--- a tally with so many more activations, of which some took so much
+-- a tally with `n` more activations, of which those that ran took `ts`
 record Adds (old new : Tally) (n : ℕ) (ts : List Taken) : Type 0 where
   activations : new.activations ≡ old.activations + n
   ran : new.ran ≡ old.ran + length ts
@@ -105,7 +106,7 @@ at_task tallies new r inside is t = ap (λ (xs : List Tally). get_or xs t nothin
         get_or-set_other tallies r.task t _ nothing_counted (λ same. other (sym same))
         ∙ sym (ap (λ (b : Bool). cond b (counted (get_or tallies t nothing_counted) r.took) (get_or tallies t nothing_counted)) (ne_eqb r.task t other))
 
--- fewer than so many are fewer than more
+-- what is small for a number is small for a greater one
 pub small_grows : (n m : ℕ) (tally : Tally) → n ≤ m → IsSmall n tally → IsSmall m tally
 small_grows n m tally le small = let a = small.activations in let b = small.ran in let s = small.sum in
     record { activations = omega (arith, a, le); ran = omega (arith, b, le); sum = omega (arith, s, le) }

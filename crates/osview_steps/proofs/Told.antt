@@ -3,11 +3,12 @@ use Rattle.std.proofs.Common.{◌≡◌, ◌∙◌, ◌++◌, ℕ, List, ap, app
 use Rattle.std.specs.Prelude.{sum}
 use Rattle.osview_steps.specs.Counting.{IsTallyOf}
 use Rattle.osview_steps.specs.Lines.{numbers_line, run_steps, task_line}
-use Rattle.osview_steps.specs.Tallies.{activation_count, least, most, steps_in, taken_by, turns_in}
+use Rattle.osview_steps.specs.Tallies.{activation_count, most, steps_in, taken_by, turns_in}
 use Rattle.osview_steps.specs.Told.{tally_line}
 use Rattle.osview_steps.specs.declared.runs.Taken.{Taken}
 use Rattle.osview_steps.specs.declared.runs.TaskRun.{TaskRun}
 use Rattle.osview_steps.specs.declared.tally.Tally.{Tally}
+use Rattle.osview_text.specs.Numbers.{least}
 
 -- one text behind another
 pub told_behind : (old a b : List ℕ) {mid new : List ℕ} → mid ≡ old ++ a → new ≡ mid ++ b → new ≡ old ++ (a ++ b)

@@ -1,9 +1,10 @@
 -- What is counted on the way.
 use Rattle.std.specs.Prelude.{◌≡◌, ℕ, ◌+◌, ◌*◌, ◌≤◌, ◌==◌, min, max, List, None, Option, Some, length, if◌then◌else◌, sum}
-use Rattle.osview_steps.specs.Tallies.{activation_count, least, most, steps_in, taken_by, turns_in}
+use Rattle.osview_steps.specs.Tallies.{activation_count, most, steps_in, taken_by, turns_in}
 use Rattle.osview_steps.specs.declared.runs.Taken.{Taken}
 use Rattle.osview_steps.specs.declared.runs.TaskRun.{TaskRun}
 use Rattle.osview_steps.specs.declared.tally.Tally.{Tally}
+use Rattle.osview_text.specs.Numbers.{least}
 
 abbrev pub nothing_counted : Tally
 nothing_counted = record { activations = 0; ran = 0; least = 0; most = 0; sum = 0; turns = 0 }
@@ -20,13 +21,13 @@ counted t (Some taken) = record {
   turns = max t.turns taken.turns;
 }
 
--- so many activations are counted at most
+-- at most `n` activations are counted
 pub record IsSmall (n : ℕ) (t : Tally) : Type 0 where
   pub activations : t.activations ≤ n
   pub ran : t.ran ≤ n
   pub sum : t.sum ≤ n * 18446744073709551615
 
--- that is counted of a task
+-- a tally is what is counted of a task
 pub record IsTallyOf (task : ℕ) (runs : List TaskRun) (t : Tally) : Type 0 where
   pub activations : t.activations ≡ activation_count task runs
   pub ran : t.ran ≡ length (taken_by task runs)

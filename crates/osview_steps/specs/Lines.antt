@@ -2,10 +2,11 @@
 use Rattle.std.specs.Prelude.{ℕ, ◌+◌, ◌/◌, ◌%◌, ◌==◌, List, [], ◌++◌, codes, if◌then◌else◌, length, slice_index_or, sum}
 use Rattle.std.specs.Fmt.{decimal}
 use Rattle.std.specs.List.{flat_map, range_with_len}
-use Rattle.collector.specs.Line.{line}
-use Rattle.osview_steps.specs.Tallies.{activation_count, all_steps, least, mean, most, ratio, share, steps_in, taken_by, turns_in}
+use Rattle.os_io.specs.Lines.{ended_line}
+use Rattle.osview_steps.specs.Tallies.{activation_count, all_steps, mean, most, ratio, share, steps_in, taken_by, turns_in}
 use Rattle.osview_steps.specs.declared.runs.Taken.{Taken}
 use Rattle.osview_steps.specs.declared.runs.TaskRun.{TaskRun}
+use Rattle.osview_text.specs.Numbers.{least}
 use Rattle.osview_text.specs.Words.{activation_word}
 
 -- a number of tenths, and of hundredths
@@ -49,7 +50,7 @@ taken_text low high middle whole part turns =
 -- the line of a task by these numbers
 abbrev pub numbers_line : (at activations ran low high whole turns all : ℕ) → List ℕ
 numbers_line at activations ran low high whole turns all =
-    line (counts_text at activations ran ++ (if ran == 0 then [] else taken_text low high (mean whole ran) whole (share whole all) turns))
+    ended_line (counts_text at activations ran ++ (if ran == 0 then [] else taken_text low high (mean whole ran) whole (share whole all) turns))
 
 -- The steps of the run: those of all tasks, and of `main`.
 abbrev pub run_steps : List TaskRun → Taken → ℕ
@@ -58,7 +59,7 @@ run_steps runs main = sum (all_steps runs) + main.steps
 -- The line of `main`: its steps, their share of the steps of the run, and how many turns of its budget it took.
 abbrev pub main_line : Taken → (all : ℕ) → List ℕ
 main_line main all =
-    line (codes "main: " ++ step_count main.steps ++ share_text (share main.steps all) ++ (codes ", " ++ turns_text main.turns))
+    ended_line (codes "main: " ++ step_count main.steps ++ share_text (share main.steps all) ++ (codes ", " ++ turns_text main.turns))
 
 -- The line of a task: how many activations it has and how many of them ran; of these the least, the most and the mean of their steps,
 -- their sum, its share of the steps of the run, and the most turns of its budget that one of them took. `lines` has the line of each
@@ -72,13 +73,13 @@ task_line lines runs main task =
 
 -- The steps of all tasks, those of a longest chain, and how many times as fast more workers can make the tasks at most.
 abbrev pub all_line : ℕ → List ℕ
-all_line all = line (codes "all tasks: " ++ step_count all)
+all_line all = ended_line (codes "all tasks: " ++ step_count all)
 
 abbrev pub longest_line : ℕ → List ℕ
-longest_line longest = line (codes "the longest chain of activations that wait for one another: " ++ step_count longest)
+longest_line longest = ended_line (codes "the longest chain of activations that wait for one another: " ++ step_count longest)
 
 abbrev pub speed_line : (all longest : ℕ) → List ℕ
-speed_line all longest = codes "more workers can make the tasks " ++ hundredths (ratio all longest) ++ line (codes " times as fast at most")
+speed_line all longest = codes "more workers can make the tasks " ++ hundredths (ratio all longest) ++ ended_line (codes " times as fast at most")
 
 -- The lines: that of `main`, one for each task, in the order of the text, and those of the whole.
 abbrev pub steps_lines : (lines : List ℕ) → List TaskRun → Taken → (longest : ℕ) → List ℕ

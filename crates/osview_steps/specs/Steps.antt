@@ -8,7 +8,7 @@ use Rattle.flow_core_laws.specs.declared.activation.Activation.{Activation}
 use Rattle.flow_core_laws.specs.declared.elem.Elem.TheVariants.{Value}
 use Rattle.flow_core_laws.specs.declared.task_end.TaskEnd.{TaskEnd}
 use Rattle.flow_core_laws.specs.declared.task_end.TaskEnd.TheVariants as task_end
-use Rattle.os_code.specs.Outcomes.{task_outcome}
+use Rattle.os_code.specs.Outcomes.{code_outcome}
 use Rattle.os_code.specs.Tasks.{TaskEnds}
 use Rattle.os_code.specs.declared.parts.Parts.{Parts}
 use Rattle.osview_steps.specs.declared.runs.Taken.{Taken}
@@ -25,13 +25,13 @@ did_run (task_end.Poisoned root) = false
 abbrev pub has_run : Option TaskEnd → Bool
 has_run end = option_map_or did_run end false
 
--- An activation takes so many steps and turns of its budget: all that it reads is there as values, over these the machine ends its task
--- in so many steps, and the task takes so many turns.
+-- What an activation takes, in steps and in turns of its budget: all that it reads is there as values, over these the machine ends its task
+-- in `taken.steps` steps, and the task takes `taken.turns` turns.
 pub record Takes (code : Parts) (activations : List Activation) (input : List ℕ) (budget : ℕ) (meaning : State) (a : ℕ) (activation : Activation)
     (taken : Taken) : Type 0 where
   pub inputs : List ℤ
   pub are_read : inputs_in stream_element (stream_reads activations input) meaning a ≡ Some (map Value inputs)
-  pub ends : TaskEnds code activation inputs budget (task_outcome code activation inputs budget) taken.steps
+  pub ends : TaskEnds code activation inputs budget (code_outcome code activation inputs budget) taken.steps
   pub turns : TakesTurns code activation inputs budget taken.turns
 
 -- What each activation of a run takes, with the number of its task; nothing where its body never ran.

@@ -2,7 +2,7 @@
 use Rattle.std.specs.Prelude.{◌≡◌, ℕ, ℤ, List, [], None, Option, Some, false, slice_get, slice_index_or, true}
 use Rattle.flow_core_laws.specs.declared.activation.Activation.{Activation}
 use Rattle.flow_core_laws.specs.declared.task_end.TaskEnd.{TaskEnd}
-use Rattle.os_code.specs.Outcomes.{task_outcome}
+use Rattle.os_code.specs.Outcomes.{code_outcome}
 use Rattle.os_code.specs.Tasks.{TaskEnds}
 use Rattle.os_code.specs.declared.parts.Parts.{Parts}
 use Rattle.osview_outcomes.specs.declared.kept.Outcomes.{Outcomes}
@@ -18,11 +18,11 @@ end_at outcomes a = slice_index_or outcomes.ends.items a None
 abbrev pub inputs_at : Outcomes → ℕ → List ℤ
 inputs_at outcomes a = slice_index_or outcomes.inputs a []
 
--- an activation with this end took so many steps and turns over what it read, or it never ran
+-- what an activation with this end took over what it read, in steps and in turns; nothing is told where it never ran
 abbrev pub Took : Parts → Activation → List ℤ → (budget : ℕ) → Option TaskEnd → Option Taken → Type 0
 Took code activation inputs budget end None = has_run end ≡ false
 Took code activation inputs budget end (Some taken) =
-    (has_run end ≡ true) × TaskEnds code activation inputs budget (task_outcome code activation inputs budget) taken.steps
+    (has_run end ≡ true) × TaskEnds code activation inputs budget (code_outcome code activation inputs budget) taken.steps
     × TakesTurns code activation inputs budget taken.turns
 
 -- each of the first activations took as much as its run says

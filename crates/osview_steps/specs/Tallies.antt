@@ -1,5 +1,5 @@
 -- What is counted of a task.
-use Rattle.std.specs.Prelude.{ℕ, ◌+◌, ◌*◌, ◌/◌, ◌%◌, ◌==◌, min, max, List, [], ◌∷◌, None, count_by, filter_map, fold, if◌then◌else◌, map}
+use Rattle.std.specs.Prelude.{ℕ, ◌+◌, ◌*◌, ◌/◌, ◌%◌, ◌==◌, max, List, None, count_by, filter_map, fold, if◌then◌else◌, map}
 use Rattle.osview_steps.specs.declared.runs.Taken.{Taken}
 use Rattle.osview_steps.specs.declared.runs.TaskRun.{TaskRun}
 
@@ -22,15 +22,11 @@ turns_in all = map (λ (taken : Taken). taken.turns) all
 abbrev pub all_steps : List TaskRun → List ℕ
 all_steps runs = steps_in (filter_map (λ (r : TaskRun). r.took) runs)
 
--- the least and the most of some numbers; 0 where there is none
-abbrev pub least : List ℕ → ℕ
-least [] = 0
-least (n ∷ ns) = fold min n ns
-
+-- the greatest of some numbers; 0 where there is none
 abbrev pub most : List ℕ → ℕ
 most ns = fold max 0 ns
 
--- the mean of so many numbers with a sum, rounded down; 0 where there is none
+-- the mean of `count` numbers whose sum is `whole`, rounded down; 0 where there is none
 abbrev pub mean : (whole count : ℕ) → ℕ
 mean whole count = if count == 0 then 0 else whole / count
 

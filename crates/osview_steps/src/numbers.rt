@@ -51,7 +51,7 @@ pub(crate) fn add_hundredths(told: &mut Text, number: u128) -> Result<(), Memory
     add_number(told, number % 10)
 }
 
-/// The mean of so many numbers with a sum, rounded down; 0 where there is none.
+/// The mean of `count` numbers whose sum is `sum`, rounded down; 0 where there is none.
 pub(crate) fn mean(sum: u128, count: u32) -> u128
     ensures { result ≡ mean sum count }
 {

@@ -1,4 +1,4 @@
-/// What a run took: so many steps of the machine, and so many turns of its budget.
+/// What a run took: how many steps of the machine, and how many turns of its budget.
 #[derive(Clone, Copy, Debug, PartialEq, Eq)]
 pub struct Taken {
     pub steps: u64,

@@ -4,7 +4,7 @@ ghost use Rattle.flow_core_laws.specs.Plans.{frame_at};
 ghost use Rattle.flow_core_laws.specs.Streams.{output_count};
 ghost use Rattle.flow_core_laws.specs.declared.activation.Activation.{Activation as Acts};
 ghost use Rattle.os_code.specs.Codes.{parts_of};
-ghost use Rattle.os_code.specs.Outcomes.{task_outcome};
+ghost use Rattle.os_code.specs.Outcomes.{code_outcome};
 ghost use Rattle.os_code.specs.Tasks.{Fits, TaskEnds, input_count};
 ghost use Rattle.osview_steps.specs.Steps.{has_run};
 ghost use Rattle.osview_steps.specs.Taking.{HaveRun, Took, end_at, inputs_at};
@@ -50,7 +50,7 @@ fn inputs_of(outcomes: &Outcomes, place: usize) -> &[i32]
     }
 }
 
-/// What an activation takes over what it read: its task is run once more. It has so many outputs.
+/// What an activation takes over what it read: its task is run once more. It has `count` outputs.
 fn taken_over(
     code: &Code,
     activation: &Activation,
@@ -66,7 +66,7 @@ fn taken_over(
     requires made { IsMadeFor (parts_of code.now) scratch.old }
     requires budget { budget ≤ budget_limit }
     ensures steps { IfOk result (λ taken. TaskEnds (parts_of code.now) activation.now inputs.now budget
-        (task_outcome (parts_of code.now) activation.now inputs.now budget) taken.steps) }
+        (code_outcome (parts_of code.now) activation.now inputs.now budget) taken.steps) }
     ensures turns { IfOk result (λ taken. TakesTurns (parts_of code.now) activation.now inputs.now budget taken.turns) }
     ensures made { IsMadeFor (parts_of code.now) scratch.new }
 {

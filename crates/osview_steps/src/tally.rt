@@ -4,7 +4,7 @@ ghost use Rattle.std.specs.Option.{option_map_or};
 ghost use Rattle.osview_steps.specs.Counting.{IsSmall, IsTallyOf, counted, nothing_counted};
 ghost use Rattle.osview_steps.specs.Steps.{steps_if};
 ghost use Rattle.osview_steps.specs.Tallies.{all_steps};
-ghost use Rattle.osview_steps.specs.declared.runs.TaskRun.{TaskRun as Run};
+ghost use Rattle.osview_steps.specs.declared.runs.TaskRun.{TaskRun};
 
 use crate::runs::{Taken, TaskRun};
 use os_io::{List, Memory};
@@ -103,7 +103,7 @@ fn count(tallies: &mut List<Tally>, run: TaskRun)
     tallies.as_mut_slice()[run.task as usize] = before.with(run.took);
 }
 
-/// Nothing, counted of each of so many tasks.
+/// Nothing counted yet, of each of `tasks` tasks.
 fn nothing_yet(alloc: Global, tasks: usize) -> Result<List<Tally>, Memory>
     ensures many { IfOk result (λ tallies. length tallies ≡ tasks) }
     ensures nothing { IfOk result (λ tallies. (t : ℕ) → slice_index_or tallies t nothing_counted ≡ nothing_counted) }
@@ -115,10 +115,10 @@ fn nothing_yet(alloc: Global, tasks: usize) -> Result<List<Tally>, Memory>
     Ok(tallies)
 }
 
-/// What is counted of each of so many tasks, over the activations of a run.
+/// What is counted of each of `tasks` tasks, over the activations of a run.
 pub(crate) fn tallies(alloc: Global, tasks: usize, runs: &[TaskRun]) -> Result<List<Tally>, Memory>
     requires few { length runs.now ≤ activations_limit }
-    requires tasks { All (λ (r : Run). r.task < tasks) runs.now }
+    requires tasks { All (λ (r : TaskRun). r.task < tasks) runs.now }
     ensures many { IfOk result (λ tallies. length tallies ≡ tasks) }
     ensures exact { IfOk result (λ tallies. (t : ℕ) → t < tasks → IsTallyOf t runs.now (slice_index_or tallies t nothing_counted)) }
     ensures small { IfOk result (λ tallies. (t : ℕ) → t < tasks → IsSmall activations_limit (slice_index_or tallies t nothing_counted)) }

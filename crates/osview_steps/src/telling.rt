@@ -3,9 +3,9 @@ ghost use Rattle.flow_core_laws.specs.Limits.{activations_limit};
 ghost use Rattle.osview_steps.specs.Counting.{IsSmall};
 ghost use Rattle.osview_steps.specs.Lines.{all_line, counts_text, longest_line, main_line, range_text, share_text, speed_line};
 ghost use Rattle.osview_steps.specs.Lines.{step_count, steps_lines, turns_text};
-ghost use Rattle.collector.specs.Line.{line};
+ghost use Rattle.os_io.specs.Lines.{ended_line};
 ghost use Rattle.osview_steps.specs.Told.{tally_line, tally_text};
-ghost use Rattle.osview_steps.specs.declared.runs.TaskRun.{TaskRun as Run};
+ghost use Rattle.osview_steps.specs.declared.runs.TaskRun.{TaskRun};
 
 use crate::numbers::{add_between, add_hundredths, add_tenths, mean, ratio, share};
 use crate::runs::{Taken, TaskRun};
@@ -52,7 +52,7 @@ fn step_word(count: u128) -> &'static [u8]
 
 /// Adds a line: bytes, and a number of steps behind them.
 fn add_step_line(told: &mut Text, before: &[u8], steps: u128) -> Result<(), Memory>
-    ensures { OnOk result (told.new ≡ told.old ++ line (before.now ++ step_count steps)) }
+    ensures { OnOk result (told.new ≡ told.old ++ ended_line (before.now ++ step_count steps)) }
 {
     add_between(told, before, steps, step_word(steps))?;
     told.add(b"\n")
@@ -147,7 +147,7 @@ pub fn steps_text(
     longest: u128,
 ) -> Result<Text, Memory>
     requires few { length runs.now ≤ activations_limit }
-    requires tasks { All (λ (r : Run). r.task < length lines.now) runs.now }
+    requires tasks { All (λ (r : TaskRun). r.task < length lines.now) runs.now }
     ensures { IfOk result (λ told. told ≡ steps_lines lines.now runs.now main longest) }
 {
     let tallies = tallies(alloc, lines.len(), runs)?;

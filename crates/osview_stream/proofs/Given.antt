@@ -2,7 +2,7 @@
 use Rattle.std.proofs.Common.{◌≡◌, ◌∙◌, ◌+◌, ◌-◌, ◌<◌, ℕ, ℤ, [], List, Option, None, Some, ap, map, refl, sym, get_or}
 use Rattle.std.specs.Prelude.{option_and_then, slice_get}
 use Rattle.std.specs.Option.{option_map, option_map_or}
-use Rattle.flow_core_laws.specs.Element.{fed, nobody, output_at, output_element, written}
+use Rattle.flow_core_laws.specs.Element.{fed, nobody, output_at, output_element, element_written}
 use Rattle.flow_core_laws.specs.Outcome.{State, ends_of, outcome_at, root_of}
 use Rattle.flow_core_laws.specs.Streams.{own_number, produced_source, stream_element}
 use Rattle.flow_core_laws.specs.Window.{Window, producer}
@@ -38,7 +38,7 @@ module _ (outcomes : Outcomes) (state : State) (are : AreOutcomesOf outcomes sta
       same o is (Poisoned root) e = refl
 
       by_outcome : (o : Option Outcome) → outcome_at state a ≡ o
-          → option_and_then (by_end a place) (option_map (λ (q : Outcome). q.end) o) ≡ option_and_then (λ (q : Outcome). written a q place) o
+          → option_and_then (by_end a place) (option_map (λ (q : Outcome). q.end) o) ≡ option_and_then (λ (q : Outcome). element_written a q place) o
       by_outcome None is = refl
       by_outcome (Some o) is = same o is o.end refl
 

@@ -3,7 +3,7 @@ use Rattle.std.specs.Prelude.{◌≡◌, ℕ, ◌<◌, true, List, [], ◌∷◌
 use Rattle.osview_sentences.specs.Names.{called, covers}
 use Rattle.osview_sentences.specs.declared.stream_name.StreamName.{StreamName}
 
--- One of so many streams has this name, and with it and, in an array, its index it is called so.
+-- A stream, one of `streams` streams, has this name, and with it and, in an array, its index it is called `word`.
 pub record IsOf (text : List ℕ) (streams : ℕ) (word : List ℕ) (name : StreamName) (stream : ℕ) : Type 0 where
   pub exists : stream < streams
   pub covered : covers stream name ≡ true

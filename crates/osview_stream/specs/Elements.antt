@@ -3,7 +3,7 @@ use Rattle.std.specs.Prelude.{ℕ, ◌-◌, ◌==◌, min, if◌then◌else◌, 
 use Rattle.std.specs.Fmt.{decimal, signed_decimal}
 use Rattle.std.specs.List.{flat_map, range_with_len}
 use Rattle.std.specs.Option.{option_map, option_map_or}
-use Rattle.collector.specs.Line.{line}
+use Rattle.os_io.specs.Lines.{ended_line}
 use Rattle.flow_core_laws.specs.Outcome.{State}
 use Rattle.flow_core_laws.specs.Place.{Place, written_count}
 use Rattle.flow_core_laws.specs.Streams.{stream_element, stream_source}
@@ -38,14 +38,14 @@ writer_text lines stream writer = if stream == 0 then codes " input" else option
 -- A position with its element and who writes there.
 abbrev pub element_line : (lines : List ℕ) → List Activation → (input : List ℕ) → State → (stream position : ℕ) → List ℕ
 element_line lines activations input state stream position =
-    line (decimal position ++ codes " " ++ element_text (element_at activations input state stream position)
+    ended_line (decimal position ++ codes " " ++ element_text (element_at activations input state stream position)
     ++ writer_text lines stream (writer_at activations stream position))
 
 -- how many positions of a stream there are to show: the bytes of the input, and what is claimed for writing of the others
 abbrev pub position_count : List Activation → (input : List ℕ) → (stream : ℕ) → ℕ
 position_count activations input stream = if stream == 0 then length input else written_count activations stream
 
--- The lines of a stream's positions from one on, at most so many. `lines` has the line of each activation's task.
+-- The lines of a stream's positions from `first` on, at most `count`. `lines` has the line of each activation's task.
 abbrev pub stream_lines : (lines : List ℕ) → List Activation → (input : List ℕ) → State → (stream first count : ℕ) → List ℕ
 stream_lines lines activations input state stream first count =
     flat_map (element_line lines activations input state stream)

@@ -3,8 +3,8 @@ ghost use Rattle.std.specs.Fmt.{decimal};
 ghost use Rattle.osview_sentences.specs.Names.{slice};
 ghost use Rattle.osview_stream.specs.Called.{IsCalled, IsNoneOf, IsOf};
 
+use os_io::parse_decimal;
 use osview_sentences::StreamName;
-use osview_text::number_of;
 
 /// The number below 2 ^ 32 that a text has in brackets.
 fn index_of(text: &[u8]) -> Option<u32>
@@ -13,7 +13,7 @@ fn index_of(text: &[u8]) -> Option<u32>
     ensures none { IfNone result ((index : ℕ) → index < 2 ^ 32 → text.now ≡ codes "[" ++ decimal index ++ codes "]" → ⊥) }
 {
     match text {
-        [b'[', digits @ .., b']'] => number_of(digits),
+        [b'[', digits @ .., b']'] => parse_decimal(digits),
         _ => None,
     }
 }
@@ -80,7 +80,7 @@ fn stream_of(text: &[u8], streams: u32, word: &[u8], name: StreamName) -> Option
     }
 }
 
-/// The stream that a word names, of so many streams: by their names where they stand in the text of a program. A member of an array
+/// The stream that a word names, one of `streams` streams: by their names where they stand in the text of a program. A member of an array
 /// is named with its index in brackets. Where several streams are called so, it is that whose name stands first.
 pub fn called_stream(text: &[u8], streams: u32, names: &[StreamName], word: &[u8]) -> Option<u32>
     ensures some { IfSome result (IsCalled text.now streams names.now word.now) }

@@ -1,4 +1,4 @@
-ghost use Rattle.std.specs.Prelude.{◌≡◌, ◌<◌, ◌++◌, ℕ, [], List, IfOk, OnOk, length, slice_index_or};
+ghost use Rattle.std.specs.Prelude.{◌≡◌, ◌<◌, ◌++◌, ℕ, [], List, IfOk, OnOk, length};
 ghost use Rattle.std.specs.Option.{option_map_or};
 ghost use Rattle.flow_core_laws.specs.declared.activation.Activation.{Activation};
 ghost use Rattle.flow_core_laws.specs.Outcome.{State};
@@ -12,6 +12,7 @@ use collector::producer;
 use flow_core::Elem;
 use os_io::Memory;
 use osview_outcomes::Outcomes;
+use osview_sentences::line_of;
 use osview_text::Text;
 use std::alloc::Global;
 use stream_match_layouts::{Layout, Span};
@@ -27,16 +28,6 @@ pub struct Shown<'a> {
     pub input: &'a [u8],
     /// The line of each activation's task.
     pub lines: &'a [u32],
-}
-
-/// The line of an activation's task.
-fn line_of(lines: &[u32], activation: u32) -> u32
-    ensures { result ≡ slice_index_or lines.now activation 0 }
-{
-    match lines.get(activation as usize) {
-        Some(line) => *line,
-        None => 0,
-    }
 }
 
 /// Adds an element.
@@ -143,7 +134,7 @@ fn position_count(layout: &Layout, input: &[u8], stream: u32) -> u64
     }
 }
 
-/// The lines of a stream's positions from one on, at most so many: the element of each as the run's activations mean it, and who
+/// The lines of a stream's positions from `first` on, at most `count`: the element of each as the run's activations mean it, and who
 /// writes there. There are as many positions as the input has bytes; of the other streams as many as are claimed for writing.
 pub fn elements_text(
     alloc: Global,

@@ -1,2 +1,3 @@
 -- What a reader believes.
+pub mod Numbers
 pub mod Words

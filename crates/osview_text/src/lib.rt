@@ -1,13 +1,11 @@
 //! Texts that are put together, and numbers that stand in them.
 //!
-//! A `Text` is bytes that grow, with numbers in decimals; nothing but the text itself takes memory. `number_of` reads a number
-//! back, exactly as it is written there. `activation_word` has the word behind a number of activations.
+//! A `Text` is bytes that grow, with numbers in decimals; nothing but the text itself takes memory. `activation_word` has the word
+//! behind a number of activations.
 #![tactic(auto)]
 
-mod numbers;
 mod text;
 mod words;
 
-pub use numbers::number_of;
 pub use text::Text;
 pub use words::activation_word;

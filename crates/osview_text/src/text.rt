@@ -74,7 +74,7 @@ impl Text {
         self.number(u64::from(number.unsigned_abs()))
     }
 
-    /// Its bytes.
+    /// The bytes of the text.
     pub fn into_bytes(self) -> Vec<u8>
         ensures { result.items ≡ self }
     {

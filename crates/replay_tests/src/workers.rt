@@ -63,7 +63,7 @@ fn reading(alloc: Global, read: Option<u32>, written: u32) -> Result<Activation,
     }
 }
 
-/// So many activations.
+/// `count` activations that read and write by a shape.
 fn activations_of(alloc: Global, shape: Shape, count: u32) -> Result<Vec<Activation>, Memory> {
     let mut activations = Vec::new(alloc);
     for number in 0..count {
@@ -74,7 +74,7 @@ fn activations_of(alloc: Global, shape: Shape, count: u32) -> Result<Vec<Activat
     Ok(activations)
 }
 
-/// The plan of so many activations.
+/// The plan of `count` activations of a shape.
 fn shaped(alloc: Global, shape: Shape, count: u32) -> Result<Plan, Fail>
     ensures { IfOk result IsSound }
 {
@@ -92,7 +92,7 @@ fn replays_what_workers_ran(rt: HostRuntime) -> Result<(), Fail> {
     Ok(())
 }
 
-/// Whether the lists of a run by so many workers are whole, and come to what the run came to.
+/// Whether the lists of a run by `workers` workers are whole, and come to what the run came to.
 fn runs_again<R: Threads + Sync>(
     rt: &R,
     alloc: Global,
@@ -115,7 +115,7 @@ fn are_same(again: &Ends, ends: &Ends) -> bool {
         && again.output.as_slice() == ends.output.as_slice()
 }
 
-/// A run by so many workers, where some frames fail.
+/// A run by `workers` workers, where some frames fail.
 fn logged<R: Threads + Sync, G: Gate>(
     rt: &R,
     alloc: Global,
@@ -204,7 +204,7 @@ fn replays_a_chain_that_goes_round_64_lists(rt: HostRuntime) -> Result<(), Fail>
     Ok(())
 }
 
-/// Whether so many frames that are dealt to 64 lists in turn are all that a plan can run.
+/// Whether `frames` frames that are dealt to 64 lists in turn are all that a plan can run.
 fn is_whole_in_turn(alloc: Global, plan: &Plan, frames: u32) -> Result<bool, Memory>
     requires { IsSound plan.now }
 {
@@ -222,7 +222,7 @@ fn dealt(alloc: Global, frames: u32) -> Result<Vec<List<u32>>, Memory> {
     Ok(all)
 }
 
-/// Those of the frames below a number that one of 64 lists is dealt.
+/// The frames below a number that one of 64 lists is dealt.
 fn dealt_to(alloc: Global, frames: u32, list: u32) -> Result<List<u32>, Memory> {
     let mut numbers = List::new(alloc);
     for frame in 0..frames {

@@ -3,7 +3,7 @@ use Rattle.std.proofs.Common.{◌≡◌, zero, suc, ◌≤◌, pos, [], ◌∷�
 use Rattle.std.specs.Prelude.{All}
 use Rattle.flow_core_laws.specs.declared.elem.Elem.TheVariants.{Value}
 use Rattle.flow_core_laws.specs.Window.{Window, producer, windows}
-use Rattle.flow_core_epochs.specs.Epoch.{IsOutside, Kept, PlacesDiffer, number_in}
+use Rattle.flow_core_epochs.specs.Epoch.{IsOutside, Kept, PlacesDiffer, number_among}
 use Rattle.runtime_tests.specs.Worked.{worked, writes_some}
 
 single : {X : Type 0} (P : X → Type 0) (x : X) → P x → All P (x ∷ [])
@@ -26,6 +26,6 @@ kept_outside =
     record {
       are_declared = single (λ (k : Kept). 2 ≤ k.place.stream) the_kept two;
       places_differ = one_differs the_kept;
-      written_outside = single (λ (k : Kept). (w : Window) × (producer worked k.place.stream k.place.position ≡ Some w) × (number_in (1 ∷ 3 ∷ []) w.activation ≡ None)) the_kept
+      written_outside = single (λ (k : Kept). (w : Window) × (producer worked k.place.stream k.place.position ≡ Some w) × (number_among (1 ∷ 3 ∷ []) w.activation ≡ None)) the_kept
           (record { activation = 0; claim = writes_some 2 4; first = 0; offset = 0 }, refl, refl);
     }

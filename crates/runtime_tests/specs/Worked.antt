@@ -3,7 +3,7 @@ use Rattle.std.specs.Prelude.{ℕ, true, false, List, [], ◌∷◌}
 use Rattle.flow_core_laws.specs.declared.claim.Claim.{Claim}
 use Rattle.flow_core_laws.specs.declared.activation.Activation.{Activation}
 
--- a claim that reads one element, by its stream and burst, and one that writes so many
+-- a claim that reads one element, by its stream and burst, and one that writes `count` elements
 abbrev pub reads_one : ℕ → ℕ → Claim
 reads_one stream burst = record { stream = stream; write = false; horizon = 1; burst = burst; skip = 0 }
 

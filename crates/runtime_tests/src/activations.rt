@@ -11,7 +11,7 @@ use std::alloc::Global;
 use std::test::Fail;
 use stream_match::{Layout, build};
 
-/// The layout of activations with these claims, over so many streams and an input of so many elements.
+/// The layout of activations with these claims, over `streams` streams and an input of `input_len` elements.
 pub(crate) fn layout_of(
     alloc: Global,
     streams: u32,

@@ -2,7 +2,7 @@
 
 ghost use Rattle.std.specs.Prelude.{◌≡◌, IfOk, true};
 ghost use Rattle.runtime_tests.specs.Worked.{worked};
-ghost use Rattle.stream_match.specs.EpochPlan.{AreFrames};
+ghost use Rattle.stream_match.specs.EpochPlan.{AscendInLayout};
 ghost use Rattle.stream_match_layouts.specs.Layout.{IsLayout, IsLayoutOf};
 
 use crate::activations::activation_of;
@@ -83,7 +83,7 @@ fn epoch_over(
 
 /// Whether numbers are those of activations of a layout, ascending.
 fn are_frames(layout: &Layout, numbers: &[u32]) -> bool
-    ensures { result ≡ true → AreFrames layout.now numbers.now }
+    ensures { result ≡ true → AscendInLayout layout.now numbers.now }
 {
     let mut next: usize = 0;
     for number in numbers {

@@ -99,7 +99,7 @@ fn count_up(rt: &impl Abort, numbers: &[u32], count: usize) {
     }
 }
 
-/// Whether the first cells are so, and behind them come so many empty ones.
+/// Whether the first cells are those of `first`, and behind them come `empty` empty ones.
 fn are_cells(rt: &impl Abort, found: &[Option<Elem>], first: &[Option<Elem>], empty: usize) {
     assert!(rt; first.len() <= found.len());
     let (front, behind) = found.split_at(first.len());

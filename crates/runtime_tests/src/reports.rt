@@ -84,7 +84,7 @@ impl Case<'_> {
     }
 }
 
-/// A sink that has room for so many bytes, takes so many in a call and fails at one.
+/// A sink that has room for `room` bytes, takes at most `most` in a call and fails at the call numbered `failing`.
 #[derive(Clone, Copy)]
 struct Sink {
     room: u32,

@@ -268,7 +268,7 @@ fn plan_of_case(alloc: Global, case: &Case<'_>) -> Result<Plan, Fail>
     plan_over(alloc, &layout, input.as_slice())
 }
 
-/// An input of so many elements.
+/// An input of `count` elements.
 fn input_of(alloc: Global, count: u32) -> Result<Vec<u8>, Memory> {
     let mut input = Vec::new(alloc);
     for k in 0..count {
@@ -351,7 +351,7 @@ fn is_same(rt: &impl Abort, many: &Ends, one: &Ends) {
     assert!(rt; many.output.as_slice() == one.output.as_slice());
 }
 
-/// Whether so many frames were run, and by no worker past these.
+/// Whether `ran` frames were run, and by none but the first `workers` workers.
 fn were_in_bounds(rt: &impl Abort, calls: &Calls, ran: u64, workers: u32) {
     assert!(rt; calls.worker.load(Ordering::SeqCst) < workers);
     assert!(rt; u64::from(calls.count.load(Ordering::SeqCst)) == ran);
@@ -360,7 +360,7 @@ fn were_in_bounds(rt: &impl Abort, calls: &Calls, ran: u64, workers: u32) {
 /// The most turns for which a worker is held.
 const TURNS: u32 = 500_000_000;
 
-/// Holds each worker until so many frames were entered, and notes where the turns ran out.
+/// Holds each worker until `frames` frames were entered, and notes where the turns ran out.
 #[derive(Drop)]
 struct Meeting {
     frames: u32,
@@ -448,10 +448,10 @@ fn meets<R: Threads + Abort + Sync>(
 /// Whether a run came to what was counted by hand.
 fn is_counted(rt: &impl Abort, case: &Case<'_>, ends: &Ends) {
     assert!(rt; ends.ends.len() == case.activations as usize);
-    are_so_many(rt, ends.ends.as_slice(), Kind::Done, case.done);
-    are_so_many(rt, ends.ends.as_slice(), Kind::Trapped, case.trapped);
-    are_so_many(rt, ends.ends.as_slice(), Kind::OverBudget, case.over_budget);
-    are_so_many(rt, ends.ends.as_slice(), Kind::Poisoned, case.poisoned);
+    has_count_of(rt, ends.ends.as_slice(), Kind::Done, case.done);
+    has_count_of(rt, ends.ends.as_slice(), Kind::Trapped, case.trapped);
+    has_count_of(rt, ends.ends.as_slice(), Kind::OverBudget, case.over_budget);
+    has_count_of(rt, ends.ends.as_slice(), Kind::Poisoned, case.poisoned);
     assert!(rt; ends.output.len() == case.output);
     has_elements(rt, ends.output.as_slice(), case.elements);
 }
@@ -475,8 +475,8 @@ fn is_of(end: &Option<TaskEnd>, kind: Kind) -> bool {
     }
 }
 
-/// Whether so many ends are of a kind.
-fn are_so_many(rt: &impl Abort, ends: &[Option<TaskEnd>], kind: Kind, wanted: u32) {
+/// Whether `wanted` ends are of a kind.
+fn has_count_of(rt: &impl Abort, ends: &[Option<TaskEnd>], kind: Kind, wanted: u32) {
     let mut count: u32 = 0;
     for end in ends {
         if is_of(end, kind) {

@@ -11,7 +11,7 @@ use std::process::Abort;
 use std::test::Fail;
 use stream_match::Layout;
 
-/// Activations on two declared streams, over an input of so many elements.
+/// Activations on two declared streams, over an input of `input_len` elements.
 struct Case<'a> {
     input_len: u32,
     /// The claims of each activation.

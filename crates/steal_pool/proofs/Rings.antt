@@ -15,7 +15,7 @@ others_long ds at lt =
     let c = length-take at ds in
     omega (arith, a, b, c, lt)
 
--- the deque so many steps behind a place
+-- the deque `k` + 1 steps behind a place
 pub others_at : (ds : List Deque) (at k from : ℕ) (d : Deque) → at < length ds → k + 1 < length ds → (at + (k + 1) < length ds → from ≡ at + (k + 1)) → (length ds ≤ at + (k + 1) → from + length ds ≡ at + (k + 1)) → get_or (rest_of_ring ds at) k d ≡ get_or ds from d
 others_at ds at k from d there few before round = by (cases_lt (at + (k + 1)) (length ds))
   where

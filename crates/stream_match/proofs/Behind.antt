@@ -20,7 +20,7 @@ use Rattle.stream_match_layouts.specs.Layout.{span_of, IsLayout}
 use Rattle.stream_match_layouts.specs.Spans.{frame_count, read_count, write_count, spans_of}
 use Rattle.stream_match.specs.Stretch.{by_frame, pieces_from}
 use Rattle.stream_match.specs.Weave.{Reach, total}
-use Rattle.stream_match.specs.EpochPlan.{AreFrames, read_reach, staying, leaving_reach, leaving_reaches}
+use Rattle.stream_match.specs.EpochPlan.{AscendInLayout, read_reach, staying, leaving_reach, leaving_reaches}
 use Rattle.stream_match.specs.EpochCode.{stretches_from, with_positions, reads_before, read_part, epoch_frame}
 use Rattle.stream_match_layouts.proofs.Windows.{no_window}
 use Rattle.stream_match_layouts.proofs.Writers.{window_number}
@@ -105,7 +105,7 @@ module _ (layout : Layout) (is : IsLayout layout) where
       from true n h = omega arith
       from false n h = h
 
-  module _ (frames : List ℕ) (are : AreFrames layout frames) where
+  module _ (frames : List ℕ) (are : AscendInLayout layout frames) where
     at_least : (i : ℕ) → i < length frames → i ≤ get_or frames i 0
     at_least zero lt = omega arith
     at_least (suc i) lt = omega (arith, at_least i (omega arith), are.ascend i (suc i) (omega arith) lt)

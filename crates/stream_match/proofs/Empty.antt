@@ -10,7 +10,7 @@ use Rattle.std.proofs.lemmas.Option.{slice_get_within, get_or_from_slice_get, sa
 use Rattle.flow_core_laws.specs.declared.activation.Activation.{Activation}
 use Rattle.flow_core_laws.specs.declared.elem.Elem.{Elem}
 use Rattle.flow_core_laws.specs.declared.elem.Elem.TheVariants.{Value}
-use Rattle.flow_core_epochs.specs.Epoch.{number_in}
+use Rattle.flow_core_epochs.specs.Epoch.{number_among}
 use Rattle.flow_core_epochs.proofs.Members.{Has, of_map, of_flat_map, of_filter}
 use Rattle.flow_core_epochs.proofs.Carried.{has_all}
 use Rattle.stream_match_layouts.specs.declared.span.Span.{Span}
@@ -22,7 +22,7 @@ use Rattle.stream_match.specs.declared.kept.Kept.{Kept}
 use Rattle.stream_match.specs.declared.stretch.Stretch.{Stretch}
 use Rattle.stream_match.specs.Kept.{kept_of}
 use Rattle.stream_match.specs.Weave.{Reach, total, WritesAt}
-use Rattle.stream_match.specs.EpochPlan.{AreFrames, WrittenOutside, opening_element, epoch_opening, weave_over, staying, leaving_reach, leaving_reaches}
+use Rattle.stream_match.specs.EpochPlan.{AscendInLayout, WrittenOutside, opening_element, epoch_opening, weave_over, staying, leaving_reach, leaving_reaches}
 use Rattle.stream_match.specs.EpochCode.{IsEmpty, filled_cells, empty_in, stretches_from, with_positions}
 use Rattle.stream_match.specs.Whole.{output_reach}
 use Rattle.stream_match.proofs.Counting.{same_test, other_test}
@@ -107,7 +107,7 @@ of_stretches to at (r ∷ rs) s (suc i, is) = let (q, q_in, stream, first, count
 
 -- ---- what leaves
 
-module _ (layout : Layout) (is : IsLayout layout) (activations : List Activation) (of : IsLayoutOf layout activations) (input frames : List ℕ) (are : AreFrames layout frames) (kept : List Kept) (cursors : List ℕ) (outside : WrittenOutside activations frames (map kept_of kept)) where
+module _ (layout : Layout) (is : IsLayout layout) (activations : List Activation) (of : IsLayoutOf layout activations) (input frames : List ℕ) (are : AscendInLayout layout frames) (kept : List Kept) (cursors : List ℕ) (outside : WrittenOutside activations frames (map kept_of kept)) where
   -- an element that a frame writes isn't there at opening
   not_there : (n : ℕ) (x : Span) (position : ℕ) → n < length frames → Has (spans_of layout (get_or frames n 0)) x → x.write ≡ true → x.first ≤ position → position < x.first + x.count → epoch_opening input (map kept_of kept) x.stream position ≡ None
   not_there n x position lt has writes low high =
@@ -121,7 +121,7 @@ module _ (layout : Layout) (is : IsLayout layout) (activations : List Activation
         within = w.within;
         from = omega (arith, first);
         to = omega (arith, first, count);
-        is_frame = ap (λ (t : Span). number_in frames t.frame) w.is ∙ found_number frames x.frame n are.ascend lt (sym w.of_frame);
+        is_frame = ap (λ (t : Span). number_among frames t.frame) w.is ∙ found_number frames x.frame n are.ascend lt (sym w.of_frame);
       } in
       ap (λ o. option_map_or (λ v. Some v) o (opening_element input x.stream position)) (none_kept layout is activations of input frames (map kept_of kept) sink (leaving_exist layout is frames cursors are) (leaving_fits layout is frames cursors are) are outside x.stream position w.place n exists at)
       ∙ ap (λ b. cond b (option_map (λ byte. Value (pos byte)) (slice_get input position)) None) (other_test x.stream 0 (no_input_writer layout is x.stream exists w.place w.within))

@@ -14,7 +14,7 @@ use Rattle.stream_match_layouts.specs.Layout.{IsLayout}
 use Rattle.stream_match.specs.Stretch.{by_frame, stretch_places}
 use Rattle.stream_match.specs.Walking.{IsStretch}
 use Rattle.stream_match.specs.Weave.{Reach, Weave, total, cells_of_first, frame_cells, woven_pieces, IsWoven}
-use Rattle.stream_match.specs.EpochPlan.{AreFrames, epoch_opening, reaches_over, weave_over}
+use Rattle.stream_match.specs.EpochPlan.{AscendInLayout, epoch_opening, reaches_over, weave_over}
 use Rattle.stream_match.specs.Kept.{kept_of}
 use Rattle.stream_match.specs.EpochCode.{IsEmpty, pieces_for, renumbered, empty_in, filled_cells, stretches_from, with_positions, reads_before, read_part, epoch_frame, IsRead, IsLeft, CanLeave}
 use Rattle.std.proofs.lemmas.List.{length-append, length-replicate}
@@ -62,7 +62,7 @@ no_cells input kept s none = ap (λ n. map (epoch_opening input (map kept_of kep
 pub no_places : (s : Stretch) → s.count ≡ 0 → stretch_places s ≡ []
 no_places s none = ap (places_from s.stream s.first) none
 
-module _ (layout : Layout) (is : IsLayout layout) (frames : List ℕ) (are : AreFrames layout frames) (sink : List Reach) (can : CanLeave layout frames sink) (reads leaves : List Stretch) (next end : ℕ) (rows : AreRows layout frames sink reads leaves next end) where
+module _ (layout : Layout) (is : IsLayout layout) (frames : List ℕ) (are : AscendInLayout layout frames) (sink : List Reach) (can : CanLeave layout frames sink) (reads leaves : List Stretch) (next end : ℕ) (rows : AreRows layout frames sink reads leaves next end) where
   -- going over them is going over all
   over_all : {B : Type 0} (g : Stretch → List B) → ((s : Stretch) → s.count ≡ 0 → g s ≡ [])
       → flat_map g reads ++ flat_map g leaves ≡ flat_map g (flat_map (read_part layout frames) (range_with_len 0 (length frames))) ++ flat_map g (stretches_from (length frames) next sink)

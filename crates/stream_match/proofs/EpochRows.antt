@@ -11,7 +11,7 @@ use Rattle.std.proofs.lemmas.List.Sums.{sum_by-cons}
 use Rattle.std.proofs.lemmas.Option.{slice_get-get_or, slice_get_within, get_or_from_slice_get}
 use Rattle.flow_core_laws.specs.declared.plan.FramePlan.{FramePlan}
 use Rattle.flow_core_laws.specs.declared.plan.Piece.{Piece}
-use Rattle.flow_core_epochs.specs.Epoch.{number_in}
+use Rattle.flow_core_epochs.specs.Epoch.{number_among}
 use Rattle.flow_core_epochs.proofs.Frames.{numbers_back}
 use Rattle.flow_core_epochs.proofs.Members.{Has, of_map, of_flat_map, of_range}
 use Rattle.flow_core_epochs.proofs.Carried.{all_has, has_all}
@@ -24,7 +24,7 @@ use Rattle.stream_match_layouts.specs.Spans.{spans_of, frame_count}
 use Rattle.stream_match.specs.Stretch.{pieces_into}
 use Rattle.stream_match.specs.Walking.{IsStretch, HasPlace}
 use Rattle.stream_match.specs.Weave.{Reach, no_reach, total, cells_of_first, frame_cells, woven_pieces, woven_frame}
-use Rattle.stream_match.specs.EpochPlan.{AreFrames, read_reach, leaving_reach, leaving_reaches, weave_over}
+use Rattle.stream_match.specs.EpochPlan.{AscendInLayout, read_reach, leaving_reach, leaving_reaches, weave_over}
 use Rattle.stream_match.specs.Kept.{kept_of}
 use Rattle.stream_match.specs.EpochCode.{renumbered, pieces_for, stretches_from, reads_before, read_part, epoch_frame, CanLeave}
 use Rattle.stream_match.proofs.Walks.{pieces_into_few}
@@ -48,7 +48,7 @@ few_renumbered : (frames : List ℕ) (ps : List Piece) → length (flat_map (ren
 few_renumbered frames [] = omega arith
 few_renumbered frames (p ∷ ps) =
     let a : length (flat_map (renumbered frames) (p ∷ ps)) ≡ length (renumbered frames p) + length (flat_map (renumbered frames) ps) = length-append (renumbered frames p) (flat_map (renumbered frames) ps) in
-    omega (arith, a, few_renumbered frames ps, one (number_in frames p.from))
+    omega (arith, a, few_renumbered frames ps, one (number_among frames p.from))
   where
     one : (o : Option ℕ) → length {A = Piece} (option_map_or (λ f. record { from = f; to = p.to; first = p.first; count = p.count; at = p.at } ∷ []) o []) ≤ 1
     one None = omega arith
@@ -70,7 +70,7 @@ few_from layout frames to at (r ∷ rs) all =
     total-cons : (r : Reach) (rs : List Reach) → total (r ∷ rs) ≡ r.count + total rs
     total-cons r rs = sum_by-cons (λ (x : Reach). x.count) r rs
 
-module _ (layout : Layout) (is : IsLayout layout) (frames : List ℕ) (are : AreFrames layout frames) where
+module _ (layout : Layout) (is : IsLayout layout) (frames : List ℕ) (are : AscendInLayout layout frames) where
   -- ---- stretches
 
   reads_at : (f : ℕ) → f < length frames → All (IsStretch layout) (read_part layout frames f)

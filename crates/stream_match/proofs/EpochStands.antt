@@ -13,7 +13,7 @@ use Rattle.flow_core_laws.specs.Window.{Window, windows, windows_of, is_written_
 use Rattle.flow_core_laws.specs.Place.{Place, places_from, places_of, input_places}
 use Rattle.flow_core_laws.specs.Streams.{output_count, input_source, produced_source, stream_source}
 use Rattle.flow_core_laws.proofs.Windows.{written, producer_by_number, claims_at-slice_get}
-use Rattle.flow_core_epochs.specs.Epoch.{number_in, read_from, Kept, value_kept, among, epoch_source, StandsForEpoch, written_places}
+use Rattle.flow_core_epochs.specs.Epoch.{number_among, read_from, Kept, value_kept, among, epoch_source, StandsForEpoch, written_places}
 use Rattle.flow_core_laws.specs.declared.plan.Plan.{Plan}
 use Rattle.flow_core_laws.specs.Element.{initial, fed, nobody}
 use Rattle.flow_core_laws.specs.Plans.{frame_at, cell_source, plan_reads}
@@ -29,7 +29,7 @@ use Rattle.stream_match_layouts.proofs.Writers.{window_number, there, stands, wr
 use Rattle.stream_match_layouts.proofs.Tallies.{frame_count-is}
 use Rattle.stream_match_layouts.proofs.FrameSpans.{spans_of-windows, outputs-are, no_input_writer}
 use Rattle.stream_match.specs.Weave.{Reach, reach_places, total, Weave, cells_of_first, reach_at, IsWoven, WritesAt, CanWeave}
-use Rattle.stream_match.specs.EpochPlan.{reaches_over, AreFrames, read_reach, leaves_from, staying, leaving_reach, leaving_reaches, opening_element, weave_over, WrittenOutside, epoch_opening, epoch_weave, IsEpochPlanOf}
+use Rattle.stream_match.specs.EpochPlan.{reaches_over, AscendInLayout, read_reach, leaves_from, staying, leaving_reach, leaving_reaches, opening_element, weave_over, WrittenOutside, epoch_opening, epoch_weave, IsEpochPlanOf}
 use Rattle.stream_match.proofs.EpochWeave.{over_frame, leaving_exist, leaving_fits, in_frames, reaches-frame, reaches-sink, stream_exists, produces, can_weave_over, span_stream}
 use Rattle.stream_match.proofs.Weaving.{length-frames, frame_at-frame}
 use Rattle.stream_match.proofs.WovenSources.{initial_by, fed_by, nobody_by, woven_reads}
@@ -41,7 +41,7 @@ use Rattle.flow_core_epochs.proofs.Members.{Has, has_head, has_tail, in_map}
 
 -- ---- the sources of cells
 
-module _ (layout : Layout) (is : IsLayout layout) (activations : List Activation) (of : IsLayoutOf layout activations) (input : List ℕ) (frames : List ℕ) (kept : List Kept) (sink : List Reach) (exist : All (λ (r : Reach). r.stream < length layout.writers) sink) (fits : sum_by (over_frame read_count layout) frames + total sink ≤ 4194304) (are : AreFrames layout frames) (outside : WrittenOutside activations frames kept) (plan : Plan) (laid : IsWoven layout (weave_over layout input frames kept sink) plan) where
+module _ (layout : Layout) (is : IsLayout layout) (activations : List Activation) (of : IsLayoutOf layout activations) (input : List ℕ) (frames : List ℕ) (kept : List Kept) (sink : List Reach) (exist : All (λ (r : Reach). r.stream < length layout.writers) sink) (fits : sum_by (over_frame read_count layout) frames + total sink ≤ 4194304) (are : AscendInLayout layout frames) (outside : WrittenOutside activations frames kept) (plan : Plan) (laid : IsWoven layout (weave_over layout input frames kept sink) plan) where
   abbrev weave : Weave
   weave = weave_over layout input frames kept sink
 
@@ -80,13 +80,13 @@ module _ (layout : Layout) (is : IsLayout layout) (activations : List Activation
       of_input (Some byte) e zero_is v = gives (Value (pos byte)) v
       of_input None e zero_is v = empty v (λ place g writes. no_input_writer layout is stream exists place writes.within zero_is)
 
-      of_frame : (v : Window) → producer activations stream at ≡ Some v → ((g : ℕ) → number_in frames v.activation ≡ Some g → cell_source plan c ≡ fed g (v.offset + (at - v.first))) → epoch_opening input kept stream at ≡ None → (o : Option ℕ) → number_in frames v.activation ≡ o
+      of_frame : (v : Window) → producer activations stream at ≡ Some v → ((g : ℕ) → number_among frames v.activation ≡ Some g → cell_source plan c ≡ fed g (v.offset + (at - v.first))) → epoch_opening input kept stream at ≡ None → (o : Option ℕ) → number_among frames v.activation ≡ o
           → cell_source plan c ≡ option_map_or (λ g. fed g (v.offset + (at - v.first))) o nobody
       of_frame v is_v feeds e (Some g) numbered = feeds g numbered
       of_frame v is_v feeds e None numbered = empty e (λ place g writes.
           let same : v ≡ window_number activations (number_at layout activations of stream exists place) = same_Some _ _ (sym is_v ∙ produces layout is activations of input frames kept sink exist fits are outside stream at place exists writes.within writes.from writes.to) in
           let frame : (writer_at layout stream place).frame ≡ v.activation = ap (λ (s : Span). s.frame) (writer_is layout activations of stream exists place writes.within) ∙ ap (λ (u : Window). u.activation) (sym same) in
-          let contra : Some g ≡ None = sym writes.is_frame ∙ ap (number_in frames) frame ∙ numbered in absurd (cc))
+          let contra : Some g ≡ None = sym writes.is_frame ∙ ap (number_among frames) frame ∙ numbered in absurd (cc))
 
       of_producer : (o : Option ℕ) → producer_number activations stream at ≡ o → epoch_opening input kept stream at ≡ None → cell_source plan c ≡ among frames (produced_source activations stream at)
       of_producer None e v =
@@ -105,10 +105,10 @@ module _ (layout : Layout) (is : IsLayout layout) (activations : List Activation
             within = place_lt;
             from = subst (λ (s : Span). s.first ≤ at) (sym span) u.from;
             to = subst (λ (s : Span). at < end_of s) (sym span) u.to;
-            is_frame = ap (λ (s : Span). number_in frames s.frame) span ∙ numbered;
+            is_frame = ap (λ (s : Span). number_among frames s.frame) span ∙ numbered;
           } in
           fed_by layout w can plan laid f i k place g le lt kl writes ∙ ap (λ (s : Span). fed g (s.offset + (at - s.first))) span)
-          v (number_in frames (window_number activations n).activation) refl
+          v (number_among frames (window_number activations n).activation) refl
           ∙ sym (ap (λ o. among frames (option_map_or (λ (x : Window). fed x.activation (x.offset + (at - x.first))) o nobody)) is_producer)
 
       by_stream : (b : Bool) → (stream == 0) ≡ b → epoch_opening input kept stream at ≡ opening_element input stream at → cell_source plan c ≡ among frames (stream_source activations input (record { stream = stream; position = at }))
@@ -225,7 +225,7 @@ module _ (layout : Layout) (is : IsLayout layout) (activations : List Activation
 
 -- ---- the whole
 
-module _ (layout : Layout) (is : IsLayout layout) (activations : List Activation) (of : IsLayoutOf layout activations) (input : List ℕ) (frames : List ℕ) (kept : List Kept) (sink : List Reach) (exist : All (λ (r : Reach). r.stream < length layout.writers) sink) (fits : sum_by (over_frame read_count layout) frames + total sink ≤ 4194304) (are : AreFrames layout frames) (outside : WrittenOutside activations frames kept) (plan : Plan) (laid : IsWoven layout (weave_over layout input frames kept sink) plan) where
+module _ (layout : Layout) (is : IsLayout layout) (activations : List Activation) (of : IsLayoutOf layout activations) (input : List ℕ) (frames : List ℕ) (kept : List Kept) (sink : List Reach) (exist : All (λ (r : Reach). r.stream < length layout.writers) sink) (fits : sum_by (over_frame read_count layout) frames + total sink ≤ 4194304) (are : AscendInLayout layout frames) (outside : WrittenOutside activations frames kept) (plan : Plan) (laid : IsWoven layout (weave_over layout input frames kept sink) plan) where
   pub reads_over : (f : ℕ) → f ≤ length frames → plan_reads plan f ≡ map (epoch_source activations input frames kept) (flat_map reach_places (reaches_over layout frames sink f))
   reads_over f le = woven_reads layout (weave_over layout input frames kept sink) (can_weave_over layout is activations of input frames kept sink exist fits are outside) plan laid (epoch_source activations input frames kept) f le
       (λ i k lt kl. source layout is activations of input frames kept sink exist fits are outside plan laid f i k le lt kl)
@@ -251,7 +251,7 @@ module _ (layout : Layout) (is : IsLayout layout) (activations : List Activation
       ∙ outputs-are layout activations of a (in_activations f a h)
       ∙ ap (λ cs. sum_by (λ (c : Claim). c.horizon) (filter (λ (c : Claim). c.write) cs)) (claims_at-slice_get activations a x at)
 
-module _ (layout : Layout) (is : IsLayout layout) (activations : List Activation) (of : IsLayoutOf layout activations) (input : List ℕ) (readers frames : List ℕ) (kept : List Kept) (cursors : List ℕ) (are : AreFrames layout frames) (outside : WrittenOutside activations frames kept) (cursors_are : cursors ≡ map (read_from activations readers) (range_with_len 0 (length layout.writers))) (plan : Plan) (places : List Place) (laid : IsEpochPlanOf layout input frames kept cursors plan places) where
+module _ (layout : Layout) (is : IsLayout layout) (activations : List Activation) (of : IsLayoutOf layout activations) (input : List ℕ) (readers frames : List ℕ) (kept : List Kept) (cursors : List ℕ) (are : AscendInLayout layout frames) (outside : WrittenOutside activations frames kept) (cursors_are : cursors ≡ map (read_from activations readers) (range_with_len 0 (length layout.writers))) (plan : Plan) (places : List Place) (laid : IsEpochPlanOf layout input frames kept cursors plan places) where
   pub epoch_stands : StandsForEpoch plan activations input readers frames kept places
   epoch_stands = record {
     frames_are_these = length-frames layout (epoch_weave layout input frames kept cursors) plan laid.woven;

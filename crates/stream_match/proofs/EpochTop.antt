@@ -13,7 +13,7 @@ use Rattle.flow_core_laws.specs.Window.{Window, claims_of, producer}
 use Rattle.flow_core_laws.specs.Place.{Place, input_places}
 use Rattle.flow_core_laws.specs.Streams.{stream_source}
 use Rattle.flow_core_epochs.specs.Epoch as epoch
-use Rattle.flow_core_epochs.specs.Epoch.{number_in, value_kept, among, epoch_source, read_from, StandsForEpoch}
+use Rattle.flow_core_epochs.specs.Epoch.{number_among, value_kept, among, epoch_source, read_from, StandsForEpoch}
 use Rattle.flow_core_epochs.proofs.Reading.{read_from_cursor}
 use Rattle.stream_match.specs.declared.kept.Kept.{Kept}
 use Rattle.stream_match_layouts.specs.declared.layout.Layout.{Layout}
@@ -40,7 +40,7 @@ stands_same plan activations input readers frames one other places same s =
 
 pub outside_same : (activations : List Activation) (frames : List ℕ) (kept others : List Kept) → IsPermutation kept others → WrittenOutside activations frames (map kept_of kept) → WrittenOutside activations frames (map kept_of others)
 outside_same activations frames kept others perm outside =
-    All-permutation (λ (k : epoch.Kept). (w : Window) × (producer activations k.place.stream k.place.position ≡ Some w) × (number_in frames w.activation ≡ None)) (map kept_of kept) (map kept_of others) (IsPermutation-map kept_of kept others perm) outside
+    All-permutation (λ (k : epoch.Kept). (w : Window) × (producer activations k.place.stream k.place.position ≡ Some w) × (number_among frames w.activation ≡ None)) (map kept_of kept) (map kept_of others) (IsPermutation-map kept_of kept others perm) outside
 
 -- the cursors
 pub cursors_length : (layout : Layout) (activations : List Activation) (frames cursors : List ℕ) → cursors ≡ map (read_from activations frames) (range_with_len 0 (length layout.writers)) → length cursors ≡ length layout.writers

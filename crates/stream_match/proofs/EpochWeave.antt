@@ -14,7 +14,7 @@ use Rattle.flow_core_laws.specs.Place.{Place}
 use Rattle.flow_core_laws.proofs.Sources.{find_passes}
 use Rattle.flow_core_laws.proofs.Windows.{producer_by_number}
 use Rattle.flow_core_laws.specs.declared.elem.Elem.TheVariants.{Value}
-use Rattle.flow_core_epochs.specs.Epoch.{number_in, Kept, is_at, value_kept}
+use Rattle.flow_core_epochs.specs.Epoch.{number_among, Kept, is_at, value_kept}
 use Rattle.flow_core_epochs.proofs.Members.{Has, of_map, of_flat_map}
 use Rattle.flow_core_epochs.proofs.Carried.{all_has, has_all}
 use Rattle.flow_core_epochs.proofs.Frames.{numbers_back}
@@ -28,7 +28,7 @@ use Rattle.stream_match_layouts.proofs.Sums.{frames_bound, frames_are}
 use Rattle.stream_match_layouts.proofs.Tallies.{spans-few, sums-next, sum-le}
 use Rattle.stream_match_layouts.proofs.FrameSpans.{output_within, no_input_writer, spans_of-windows, start-le}
 use Rattle.stream_match.specs.Weave.{Reach, no_reach, total, Weave, cells_of_first, reach_at, WritesAt, CanWeave}
-use Rattle.stream_match.specs.EpochPlan.{reaches_over, AreFrames, read_reach, leaving_reaches, opening_element, weave_over, WrittenOutside, epoch_weave, staying, leaving_reach}
+use Rattle.stream_match.specs.EpochPlan.{reaches_over, AscendInLayout, read_reach, leaving_reaches, opening_element, weave_over, WrittenOutside, epoch_weave, staying, leaving_reach}
 use Rattle.stream_match.proofs.Counting.{other_test}
 use Rattle.stream_match.proofs.WovenSound.{sum_by-map}
 use Rattle.stream_match.proofs.Weaving.{first-more}
@@ -96,7 +96,7 @@ module _ (layout : Layout) (is : IsLayout layout) where
       let lawful = subst (λ (v : Window). IsLawfulClaim (length layout.writers) v.claim) same (lawful_window (length layout.writers) is.activations is.lawful number within) in
       subst (λ (t : Span). t.stream < length layout.writers) w_is lawful.stream_exists
 
-module _ (layout : Layout) (is : IsLayout layout) (frames : List ℕ) (cursors : List ℕ) (are : AreFrames layout frames) where
+module _ (layout : Layout) (is : IsLayout layout) (frames : List ℕ) (cursors : List ℕ) (are : AscendInLayout layout frames) where
   pub leaving_exist : All (λ (r : Reach). r.stream < length layout.writers) (leaving_reaches layout frames cursors)
   leaving_exist = has_all (λ (r : Reach). r.stream < length layout.writers) (leaving_reaches layout frames cursors) (λ r h.
       let p = of_flat_map (λ a. map (leaving_reach cursors) (spans_of layout a)) frames r h in
@@ -107,7 +107,7 @@ module _ (layout : Layout) (is : IsLayout layout) (frames : List ℕ) (cursors :
   pub leaving_fits : sum_by (over_frame read_count layout) frames + total (leaving_reaches layout frames cursors) ≤ 4194304
   leaving_fits = omega (arith, all_leaving-le layout cursors frames, both_frames layout frames, frames_within layout is (λ (s : Span). s.count) frames 0 (λ i lt. omega arith) are.exist are.ascend, spans-few layout is.activations is.is_of is.lawful.positions_are_few)
 
-module _ (layout : Layout) (is : IsLayout layout) (activations : List Activation) (of : IsLayoutOf layout activations) (input : List ℕ) (frames : List ℕ) (kept : List Kept) (sink : List Reach) (exist : All (λ (r : Reach). r.stream < length layout.writers) sink) (fits : sum_by (over_frame read_count layout) frames + total sink ≤ 4194304) (are : AreFrames layout frames) (outside : WrittenOutside activations frames kept) where
+module _ (layout : Layout) (is : IsLayout layout) (activations : List Activation) (of : IsLayoutOf layout activations) (input : List ℕ) (frames : List ℕ) (kept : List Kept) (sink : List Reach) (exist : All (λ (r : Reach). r.stream < length layout.writers) sink) (fits : sum_by (over_frame read_count layout) frames + total sink ≤ 4194304) (are : AscendInLayout layout frames) (outside : WrittenOutside activations frames kept) where
   abbrev weave : Weave
   weave = weave_over layout input frames kept sink
 
@@ -198,11 +198,11 @@ module _ (layout : Layout) (is : IsLayout layout) (activations : List Activation
           let parts = and_parts (k.place.stream == stream) (k.place.position == position) passes in
           let on_stream = eqb-true k.place.stream stream parts.0 in
           let at_position = eqb-true k.place.position position parts.1 in
-          let (v, v_is, none) = subst (λ (l : Kept). (v : Window) × (producer activations l.place.stream l.place.position ≡ Some v) × (number_in frames v.activation ≡ None)) (get_or_from_slice_get kept i k k at) (outside i k (slice_get_within kept i k at)) in
+          let (v, v_is, none) = subst (λ (l : Kept). (v : Window) × (producer activations l.place.stream l.place.position ≡ Some v) × (number_among frames v.activation ≡ None)) (get_or_from_slice_get kept i k k at) (outside i k (slice_get_within kept i k at)) in
           let writer = produces stream position place exists w.within w.from w.to in
           let same : v ≡ window_number activations (number_at layout activations of stream exists place) = same_Some _ _ (sym v_is ∙ ap (λ s. producer activations s k.place.position) on_stream ∙ ap (producer activations stream) at_position ∙ writer) in
           let frame : (writer_at layout stream place).frame ≡ v.activation = ap (λ (s : Span). s.frame) (writer_is layout activations of stream exists place w.within) ∙ ap (λ (u : Window). u.activation) (sym same) in
-          let contra : Some g ≡ None = sym w.is_frame ∙ ap (number_in frames) frame ∙ none in
+          let contra : Some g ≡ None = sym w.is_frame ∙ ap (number_among frames) frame ∙ none in
           absurd (cc)
 
   pub can_weave_over : CanWeave layout (weave_over layout input frames kept sink)
@@ -226,5 +226,5 @@ module _ (layout : Layout) (is : IsLayout layout) (activations : List Activation
         ∙ ap (λ b. cond b (option_map (λ byte. Value (pos byte)) (slice_get input position)) None) (other_test stream 0 (no_input_writer layout is stream exists place w.within));
   }
 
-pub can_weave : (layout : Layout) (is : IsLayout layout) (activations : List Activation) (of : IsLayoutOf layout activations) (input : List ℕ) (frames : List ℕ) (kept : List Kept) (cursors : List ℕ) (are : AreFrames layout frames) (outside : WrittenOutside activations frames kept) → CanWeave layout (epoch_weave layout input frames kept cursors)
+pub can_weave : (layout : Layout) (is : IsLayout layout) (activations : List Activation) (of : IsLayoutOf layout activations) (input : List ℕ) (frames : List ℕ) (kept : List Kept) (cursors : List ℕ) (are : AscendInLayout layout frames) (outside : WrittenOutside activations frames kept) → CanWeave layout (epoch_weave layout input frames kept cursors)
 can_weave layout is activations of input frames kept cursors are outside = can_weave_over layout is activations of input frames kept (leaving_reaches layout frames cursors) (leaving_exist layout is frames cursors are) (leaving_fits layout is frames cursors are) are outside

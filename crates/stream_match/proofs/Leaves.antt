@@ -10,7 +10,7 @@ use Rattle.std.proofs.lemmas.Option.{slice_get_within, get_or_from_slice_get}
 use Rattle.flow_core_laws.specs.declared.plan.Piece.{Piece}
 use Rattle.flow_core_laws.specs.FirstPosition.{is_write_to}
 use Rattle.flow_core_laws.specs.Window.{Window, windows, windows_of, window_of, claims_of, claims_at}
-use Rattle.flow_core_epochs.specs.Epoch.{number_in}
+use Rattle.flow_core_epochs.specs.Epoch.{number_among}
 use Rattle.flow_core_epochs.proofs.Members.{Has, of_map, has_head, has_tail}
 use Rattle.flow_core_epochs.proofs.Written.{has_window}
 use Rattle.stream_match_layouts.specs.declared.span.Span.{Span}
@@ -26,7 +26,7 @@ use Rattle.stream_match_layouts.proofs.FrameSpans.{spans_of-windows, output_with
 use Rattle.stream_match.specs.declared.stretch.Stretch.{Stretch}
 use Rattle.stream_match.specs.Stretch.{overlap_first, overlap_end, piece_between, overlap, pieces_into}
 use Rattle.stream_match.specs.Weave.{Reach, total}
-use Rattle.stream_match.specs.EpochPlan.{AreFrames, staying, leaving_reach}
+use Rattle.stream_match.specs.EpochPlan.{AscendInLayout, staying, leaving_reach}
 use Rattle.stream_match.specs.EpochCode.{pieces_for, renumbered, stretches_from, with_positions, left_piece, left_pieces}
 use Rattle.stream_match.proofs.Counting.{same_test}
 use Rattle.stream_match.proofs.LookUp.{found_number}
@@ -80,7 +80,7 @@ module _ (layout : Layout) (is : IsLayout layout) where
       } in
       one_piece layout stretch w.place p has found (omega arith)
 
-  module _ (frames : List ℕ) (are : AreFrames layout frames) (n : ℕ) (n_lt : n < length frames) where
+  module _ (frames : List ℕ) (are : AscendInLayout layout frames) (n : ℕ) (n_lt : n < length frames) where
     one_for : (s : Span) (to stay at : ℕ) → Has (spans_of layout (get_or frames n 0)) s → s.write ≡ true → stay < s.count
         → pieces_for layout frames (record { to = to; stream = s.stream; first = s.first + stay; count = s.count - stay; at = at }) ≡ record { from = n; to = to; first = s.offset + stay; count = s.count - stay; at = at } ∷ []
     one_for s to stay at has writes some =
@@ -89,7 +89,7 @@ module _ (layout : Layout) (is : IsLayout layout) where
         let writers = has_writers layout is.activations is.is_of s.stream (span_stream layout is a s (are.exist n n_lt) has) is.lawful in
         let stretch : Stretch = record { to = to; stream = s.stream; first = s.first + stay; count = s.count - stay; at = at } in
         let p : Piece = piece_between stretch s in
-        let number : number_in frames s.frame ≡ Some n = found_number frames s.frame n are.ascend n_lt (sym w.of_frame) in
+        let number : number_among frames s.frame ≡ Some n = found_number frames s.frame n are.ascend n_lt (sym w.of_frame) in
         let first : p.first ≡ s.offset + stay = omega arith in
         let count : p.count ≡ s.count - stay = omega arith in
         let place : p.at ≡ at = omega arith in

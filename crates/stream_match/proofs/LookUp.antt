@@ -11,7 +11,7 @@ use Rattle.std.proofs.lemmas.List.Sorted.{IsPermutation-map, IsPermutation-sym, 
 use Rattle.flow_core_laws.specs.Place as streams
 use Rattle.flow_core_laws.proofs.Sources.{position_only, find_passes}
 use Rattle.flow_core_epochs.specs.Epoch as epoch
-use Rattle.flow_core_epochs.specs.Epoch.{number_in, is_at, value_kept, PlacesDiffer}
+use Rattle.flow_core_epochs.specs.Epoch.{number_among, is_at, value_kept, PlacesDiffer}
 use Rattle.flow_core_epochs.proofs.Reading.{has_contained}
 use Rattle.stream_match.specs.declared.kept.Kept.{Kept}
 use Rattle.stream_match.specs.declared.stretch.Stretch.{Stretch}
@@ -27,7 +27,7 @@ ascend-rise xs up i j le lt = elim (cases_lt i j) [
   | inr ge ↦ (let e = ap (λ k. get_or xs k 0) (let z : i ≡ j = omega arith in z) in omega (arith, e))
 ]
 
-pub found_number : (xs : List ℕ) (a i : ℕ) → Ascend xs → i < length xs → get_or xs i 0 ≡ a → number_in xs a ≡ Some i
+pub found_number : (xs : List ℕ) (a i : ℕ) → Ascend xs → i < length xs → get_or xs i 0 ≡ a → number_among xs a ≡ Some i
 found_number xs a i up lt is = position_only (λ f. f == a) xs i (get_or xs i 0) (slice_get-get_or xs i 0 lt) (same_test (get_or xs i 0) a is) (λ j y at passes. only j y at (eqb-true y a passes) (cases_order j i))
   where
     only : (j y : ℕ) → slice_get xs j ≡ Some y → y ≡ a → (j ≡ i) ⊎ ((j < i) ⊎ (i < j)) → j ≡ i
@@ -35,7 +35,7 @@ found_number xs a i up lt is = position_only (λ f. f == a) xs i (get_or xs i 0)
     only j y at same (inr (inl less)) = let v = get_or_from_slice_get xs j y 0 at in absurd (omega (arith, up j i less lt, v))
     only j y at same (inr (inr more)) = let v = get_or_from_slice_get xs j y 0 at in absurd (omega (arith, up i j more (slice_get_within xs j y at), v))
 
-pub no_number : (xs : List ℕ) (a : ℕ) → ((k : ℕ) → k < length xs → get_or xs k 0 ≡ a → ⊥) → number_in xs a ≡ None
+pub no_number : (xs : List ℕ) (a : ℕ) → ((k : ℕ) → k < length xs → get_or xs k 0 ≡ a → ⊥) → number_among xs a ≡ None
 no_number xs a free =
     let e : position_or_len (λ f. f == a) xs ≡ length xs = position_or_len_is (λ f. f == a) xs (length xs) 0 (omega arith) (λ k lt. fails k lt (get_or xs k 0 == a) refl) (λ lt. absurd (omega arith)) in
     ap (λ i. cond (nat_lt i (length xs)) (Some i) None) e ∙ ap (λ b. cond b (Some (length xs)) None) (le-ltb (length xs) (length xs) (omega arith))

@@ -9,7 +9,7 @@ use Rattle.std.proofs.lemmas.List.FromFn.{fill_by_all}
 use Rattle.std.proofs.lemmas.List.Sums.{sum_by-cons, sum_by_more}
 use Rattle.flow_core_laws.specs.declared.plan.Piece.{Piece}
 use Rattle.flow_core_laws.proofs.Stretches.{flat_map-range_more, flat_map-range-same}
-use Rattle.flow_core_epochs.specs.Epoch.{number_in}
+use Rattle.flow_core_epochs.specs.Epoch.{number_among}
 use Rattle.stream_match.specs.declared.kept.Kept.{Kept}
 use Rattle.stream_match_layouts.specs.declared.span.Span.{Span}
 use Rattle.stream_match_layouts.specs.declared.layout.Layout.{Layout}
@@ -90,7 +90,7 @@ module _ (layout : Layout) (input frames : List ℕ) (kept : List Kept) (sink : 
       omega (arith, a, b, c, first-reads k (omega arith))
 
   among : (stretch : Stretch) (span : Span) → overlap_among (weave_over layout input frames (map kept_of kept) sink) stretch span ≡ flat_map (renumbered frames) (overlap stretch span)
-  among stretch span = as_cond (number_in frames span.frame) ∙ by_test (nat_lt (overlap_first stretch span) (overlap_end stretch span))
+  among stretch span = as_cond (number_among frames span.frame) ∙ by_test (nat_lt (overlap_first stretch span) (overlap_end stretch span))
     where
       as_cond : (o : Option ℕ) → option_map_or (λ f. overlap stretch (with_frame f span)) o [] ≡ option_map_or (λ f. cond (nat_lt (overlap_first stretch span) (overlap_end stretch span)) (piece_between stretch (with_frame f span) ∷ []) []) o []
       as_cond None = refl
@@ -104,9 +104,9 @@ module _ (layout : Layout) (input frames : List ℕ) (kept : List Kept) (sink : 
       nothing None = refl
       nothing (Some f) = refl
 
-      by_test : (b : Bool) → option_map_or (λ f. cond b (piece_between stretch (with_frame f span) ∷ []) []) (number_in frames span.frame) [] ≡ flat_map (renumbered frames) (cond b (piece_between stretch span ∷ []) [])
-      by_test true = one (number_in frames span.frame)
-      by_test false = nothing (number_in frames span.frame)
+      by_test : (b : Bool) → option_map_or (λ f. cond b (piece_between stretch (with_frame f span) ∷ []) []) (number_among frames span.frame) [] ≡ flat_map (renumbered frames) (cond b (piece_between stretch span ∷ []) [])
+      by_test true = one (number_among frames span.frame)
+      by_test false = nothing (number_among frames span.frame)
 
   into : (stretch : Stretch) → pieces_among layout (weave_over layout input frames (map kept_of kept) sink) stretch ≡ pieces_for layout frames stretch
   into stretch =

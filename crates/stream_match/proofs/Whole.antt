@@ -12,7 +12,7 @@ use Rattle.flow_core_laws.specs.Window.{Window, windows, is_written_by, producer
 use Rattle.flow_core_laws.specs.Place.{Place, places_from, input_places, written_count, output_places}
 use Rattle.flow_core_laws.proofs.Sources.{find_passes}
 use Rattle.flow_core_laws.proofs.Windows.{is_window}
-use Rattle.flow_core_epochs.specs.Epoch.{number_in, among, epoch_source}
+use Rattle.flow_core_epochs.specs.Epoch.{number_among, among, epoch_source}
 use Rattle.flow_core_laws.specs.declared.plan.Plan.{Plan}
 use Rattle.flow_core_laws.specs.IsSound.{IsSound}
 use Rattle.flow_core_laws.specs.StandsFor.{StandsFor}
@@ -27,7 +27,7 @@ use Rattle.stream_match_layouts.proofs.Windows.{claims_in-windows}
 use Rattle.stream_match_layouts.proofs.Sums.{cells_few, cells_before-all}
 use Rattle.stream_match_layouts.proofs.Tallies.{frame_count-is}
 use Rattle.stream_match.specs.Weave.{Reach, total, reach_places, IsWoven, CanWeave}
-use Rattle.stream_match.specs.EpochPlan.{AreFrames, WrittenOutside}
+use Rattle.stream_match.specs.EpochPlan.{AscendInLayout, WrittenOutside}
 use Rattle.stream_match.specs.Whole.{all_frames, output_reach, whole_weave}
 use Rattle.stream_match.specs.EpochCode.{CanLeave}
 use Rattle.stream_match.proofs.EpochWeave.{over_frame, frames_within, reaches-sink, can_weave_over}
@@ -54,7 +54,7 @@ module _ (layout : Layout) (is : IsLayout layout) where
   pub count_is : length (all_frames layout) ≡ frame_count layout
   count_is = length-range_with_len 0 (frame_count layout)
 
-  pub are : AreFrames layout (all_frames layout)
+  pub are : AscendInLayout layout (all_frames layout)
   are = record {
     exist = λ i lt. omega (arith, at_is i (omega (arith, count_is)), count_is);
     ascend = λ i j less lt. omega (arith, at_is i (omega (arith, count_is)), at_is j (omega (arith, count_is)));
@@ -81,7 +81,7 @@ module _ (layout : Layout) (is : IsLayout layout) where
     can : CanWeave layout (whole_weave layout input)
     can = can_weave_over layout is activations of input (all_frames layout) [] (output_reach layout ∷ []) exist fits are outside
 
-    number : (a : ℕ) → a < length activations → number_in (all_frames layout) a ≡ Some a
+    number : (a : ℕ) → a < length activations → number_among (all_frames layout) a ≡ Some a
     number a lt = let n = frame_count-is layout activations of in found_number (all_frames layout) a a are.ascend (omega (arith, count_is, n)) (at_is a (omega (arith, n)))
 
     stands_at : (a : ℕ) → a < length activations → slice_get (all_frames layout) a ≡ Some a

@@ -7,7 +7,7 @@ use Rattle.flow_core_laws.specs.Limits.{positions_limit}
 use Rattle.flow_core_laws.specs.declared.elem.Elem.{Elem}
 use Rattle.flow_core_laws.specs.declared.plan.FramePlan.{FramePlan}
 use Rattle.flow_core_laws.specs.declared.plan.Piece.{Piece}
-use Rattle.flow_core_epochs.specs.Epoch.{number_in, value_kept}
+use Rattle.flow_core_epochs.specs.Epoch.{number_among, value_kept}
 use Rattle.stream_match.specs.declared.kept.Kept.{Kept}
 use Rattle.stream_match.specs.Kept.{kept_of}
 use Rattle.stream_match_layouts.specs.declared.layout.Layout.{Layout}
@@ -52,7 +52,7 @@ NoneIsKept kept stretch =
 
 -- a piece by the number of its frame, or none where it comes from no frame
 abbrev pub renumbered : List ℕ → Piece → List Piece
-renumbered frames p = option_map_or (λ f. record { from = f; to = p.to; first = p.first; count = p.count; at = p.at } ∷ []) (number_in frames p.from) []
+renumbered frames p = option_map_or (λ f. record { from = f; to = p.to; first = p.first; count = p.count; at = p.at } ∷ []) (number_among frames p.from) []
 
 -- the pieces into a stretch from the frames
 abbrev pub pieces_for : Layout → List ℕ → Stretch → List Piece
@@ -75,7 +75,7 @@ abbrev pub stretches_from : ℕ → ℕ → List Reach → List Stretch
 stretches_from to at [] = []
 stretches_from to at (r ∷ rs) = record { to = to; stream = r.stream; first = r.first; count = r.count; at = at } ∷ stretches_from to (at + r.count) rs
 
--- those of the stretches that have positions
+-- the stretches that have positions
 abbrev pub with_positions : List Stretch → List Stretch
 with_positions stretches = filter (λ (s : Stretch). nat_lt 0 s.count) stretches
 
@@ -86,7 +86,7 @@ left_piece cursors from to at s =
     then record { from = from; to = to; first = s.offset + staying cursors s; count = (leaving_reach cursors s).count; at = at } ∷ []
     else []
 
--- those from spans, from a first cell on
+-- the pieces into the sink from spans, from a first cell on
 abbrev pub left_pieces : List ℕ → (from to at : ℕ) → List Span → List Piece
 left_pieces cursors from to at [] = []
 left_pieces cursors from to at (s ∷ ss) = left_piece cursors from to at s ++ left_pieces cursors from to (at + (leaving_reach cursors s).count) ss

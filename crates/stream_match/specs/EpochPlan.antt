@@ -6,7 +6,7 @@ use Rattle.std.specs.List.{flat_map, range_with_len}
 use Rattle.flow_core_laws.specs.declared.activation.Activation.{Activation}
 use Rattle.flow_core_laws.specs.Window.{Window, producer}
 use Rattle.flow_core_laws.specs.Place.{Place}
-use Rattle.flow_core_epochs.specs.Epoch.{number_in, read_from, open_in, put_over, Kept, value_kept}
+use Rattle.flow_core_epochs.specs.Epoch.{number_among, read_from, open_in, put_over, Kept, value_kept}
 use Rattle.flow_core_epochs.specs.Epoch.{epoch_meaning, AreChosen, IsKeptFor, StandsForEpoch, IsOutside}
 use Rattle.flow_core_laws.specs.declared.plan.Plan.{Plan}
 use Rattle.flow_core_laws.specs.declared.outcome.Outcome.{Outcome}
@@ -21,7 +21,7 @@ use Rattle.stream_match.specs.Weave.{Reach, reach_places, Weave, IsWoven}
 use Rattle.stream_match_layouts.specs.declared.span.Span.{Span}
 
 -- Activations of a layout, ascending.
-pub record AreFrames (layout : Layout) (frames : List ℕ) : Type 0 where
+pub record AscendInLayout (layout : Layout) (frames : List ℕ) : Type 0 where
   pub exist : (i : ℕ) → i < length frames → slice_index frames i < frame_count layout
   pub ascend : (i j : ℕ) → i < j → j < length frames → slice_index frames i < slice_index frames j
 
@@ -56,7 +56,7 @@ opening_element input stream position = if stream == 0 then option_map (λ byte.
 -- each kept element was written by an activation that is no frame
 abbrev pub WrittenOutside : List Activation → List ℕ → List Kept → Type 0
 WrittenOutside activations frames kept =
-    All (λ (k : Kept). (w : Window) × (producer activations k.place.stream k.place.position ≡ Some w) × (number_in frames w.activation ≡ None)) kept
+    All (λ (k : Kept). (w : Window) × (producer activations k.place.stream k.place.position ≡ Some w) × (number_among frames w.activation ≡ None)) kept
 
 -- what is there at opening: what is kept, a value or poison, or else the input's byte
 abbrev pub epoch_opening : List ℕ → List Kept → ℕ → ℕ → Option Elem
@@ -68,7 +68,7 @@ abbrev pub weave_over : Layout → List ℕ → List ℕ → List Kept → List 
 weave_over layout input frames kept sink = record {
   frames = length frames;
   activations = frames;
-  number = number_in frames;
+  number = number_among frames;
   reaches = reaches_over layout frames sink;
   opening = epoch_opening input kept;
   outputs = λ f. sum_by write_count (spans_of layout (slice_index frames f));
@@ -89,7 +89,7 @@ abbrev pub EpochPlansAreSound : Type 0
 EpochPlansAreSound =
     (layout : Layout) (input : List ℕ) (frames : List ℕ) (kept : List Kept) (cursors : List ℕ) (plan : Plan) (places : List Place)
     (activations : List Activation)
-    → IsLayout layout → IsLayoutOf layout activations → AreFrames layout frames → WrittenOutside activations frames kept
+    → IsLayout layout → IsLayoutOf layout activations → AscendInLayout layout frames → WrittenOutside activations frames kept
     → IsEpochPlanOf layout input frames kept cursors plan places → IsSound plan
 
 -- And it stands for the epoch, where the cursors say what is still read.
@@ -97,7 +97,7 @@ abbrev pub EpochPlansStand : Type 0
 EpochPlansStand =
     (layout : Layout) (input : List ℕ) (readers frames : List ℕ) (kept : List Kept) (cursors : List ℕ) (plan : Plan) (places : List Place)
     (activations : List Activation)
-    → IsLayout layout → IsLayoutOf layout activations → AreFrames layout frames → WrittenOutside activations frames kept
+    → IsLayout layout → IsLayoutOf layout activations → AscendInLayout layout frames → WrittenOutside activations frames kept
     → cursors ≡ map (read_from activations readers) (range_with_len 0 (length layout.writers))
     → IsEpochPlanOf layout input frames kept cursors plan places → StandsForEpoch plan activations input readers frames kept places
 
@@ -129,7 +129,7 @@ abbrev pub EpochPlansGoOn : Type 0
 EpochPlansGoOn =
     (layout : Layout) (input : List ℕ) (readers frames : List ℕ) (kept : List Kept) (cursors : List ℕ) (plan : Plan) (places : List Place)
     (before new : List Activation) (body : ℕ → List ℤ → Outcome)
-    → IsLayout layout → IsLayoutOf layout (before ++ new) → AreFrames layout frames → WrittenOutside (before ++ new) frames kept
+    → IsLayout layout → IsLayoutOf layout (before ++ new) → AscendInLayout layout frames → WrittenOutside (before ++ new) frames kept
     → cursors ≡ map (read_from (before ++ new) readers) (range_with_len 0 (length layout.writers))
     → readers ≡ open_in (stream_meaning before input body) (length (before ++ new)) → AreChosen before new input body frames
     → IsKeptFor (before ++ new) input (stream_meaning before input body) readers kept

@@ -36,7 +36,7 @@ total reaches = sum_by (λ (r : Reach). r.count) reaches
 abbrev pub with_frame : ℕ → Span → Span
 with_frame f span = record { frame = f; stream = span.stream; write = span.write; first = span.first; count = span.count; offset = span.offset }
 
--- What a plan is made over: so many frames, with the activation of each; for an activation its number among them, if it
+-- What a plan is made over: how many frames, with the activation of each; for an activation its number among them, if it
 -- is one; the reaches that go into the cells of each frame, and into those of the sink, which has the number behind the
 -- last; what the element at a position of a stream is at opening, if it is there; and how many elements each frame writes.
 pub record Weave : Type 0 where

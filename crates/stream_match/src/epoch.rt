@@ -8,7 +8,7 @@ ghost use Rattle.stream_match_layouts.specs.declared.layout.Layout.{Layout};
 ghost use Rattle.stream_match.specs.declared.stretch.Stretch.{Stretch};
 ghost use Rattle.stream_match_layouts.specs.Layout.{IsLayout, IsLayoutOf};
 ghost use Rattle.stream_match_layouts.specs.Spans.{frame_count};
-ghost use Rattle.stream_match.specs.EpochPlan.{AreFrames, WrittenOutside, GoesOn, GoesOnFor, IsEpochPlanOf};
+ghost use Rattle.stream_match.specs.EpochPlan.{AscendInLayout, WrittenOutside, GoesOn, GoesOnFor, IsEpochPlanOf};
 ghost use Rattle.stream_match.specs.Kept.{kept_of, place_of, IsKeptOutside};
 ghost use Rattle.stream_match.specs.EpochCode.{AreSorted};
 ghost use Rattle.stream_match.specs.Stretch.{stretch_places};
@@ -57,7 +57,7 @@ pub fn build_epoch(
 ) -> Result<EpochPlan, Memory>
     requires layout { IsLayout layout.now }
     requires input { length input.now ≡ layout.now.input_len }
-    requires frames { AreFrames layout.now frames.now }
+    requires frames { AscendInLayout layout.now frames.now }
     requires kept { IsKeptOutside layout.now frames.now (map kept_of kept.now) }
     ensures frames { IfOk result (λ epoch. epoch.frames ≡ frames.now) }
     ensures sound { IfOk result (λ epoch. IsSound epoch.plan) }
@@ -89,7 +89,7 @@ pub fn build_ready(
     requires layout { IsLayout layout.now }
     requires input { length input.now ≡ layout.now.input_len }
     requires readers { All (λ f. f < frame_count layout.now) readers.now }
-    requires frames { AreFrames layout.now frames.now }
+    requires frames { AscendInLayout layout.now frames.now }
     requires kept { IsKeptOutside layout.now frames.now (map kept_of kept.now) }
     ensures frames { IfOk result (λ epoch. epoch.frames ≡ frames.now) }
     ensures sound { IfOk result (λ epoch. IsSound epoch.plan) }
@@ -104,7 +104,7 @@ pub fn build_ready(
     Ok(epoch)
 }
 
-/// The plan of an epoch, by the kept elements by their places. Where it has no frames, what is read decides nothing.
+/// The plan of an epoch; `kept` is sorted by place. Without frames the plan is empty.
 fn plan_of(
     alloc: Global,
     layout: &Layout,
@@ -115,7 +115,7 @@ fn plan_of(
 ) -> Result<ReadyPlan, Memory>
     requires layout { IsLayout layout.now }
     requires readers { All (λ f. f < frame_count layout.now) readers.now }
-    requires frames { AreFrames layout.now frames.now }
+    requires frames { AscendInLayout layout.now frames.now }
     requires kept { AreSorted kept.now }
     requires outside { (activations : List Activation) × IsLayoutOf layout.now activations
         × WrittenOutside activations frames.now (map kept_of kept.now) }
@@ -172,7 +172,7 @@ fn weave(
     input: &[u8],
 ) -> Result<ReadyPlan, Memory>
     requires layout { IsLayout layout.now }
-    requires frames { AreFrames layout.now frames.now }
+    requires frames { AscendInLayout layout.now frames.now }
     requires cursors { length cursors.now ≡ length layout.now.writers }
     requires small { All (λ cursor. cursor < 2 ^ 62) cursors.now }
     requires kept { AreSorted kept.now }

@@ -2,7 +2,7 @@ ghost use Rattle.std.specs.Prelude.{◌≡◌, ◌+◌, ◌^◌, ◌<◌, All, I
 ghost use Rattle.std.specs.List.{range_with_len};
 ghost use Rattle.flow_core_laws.specs.declared.plan.Piece.{Piece};
 ghost use Rattle.stream_match_layouts.specs.Layout.{IsLayout};
-ghost use Rattle.stream_match.specs.EpochPlan.{AreFrames};
+ghost use Rattle.stream_match.specs.EpochPlan.{AscendInLayout};
 ghost use Rattle.stream_match.specs.EpochCode.{epoch_frame};
 
 use crate::frames::frame_tally;
@@ -21,7 +21,7 @@ pub(crate) fn epoch_frames(
     waits: &[u32],
 ) -> Result<List<FramePlan>, Memory>
     requires layout { IsLayout layout.now }
-    requires frames { AreFrames layout.now frames.now }
+    requires frames { AscendInLayout layout.now frames.now }
     requires from { All (λ (p : Piece). p.from < length frames.now) pieces.now }
     requires few { length pieces.now < 2 ^ 32 }
     requires waits { length waits.now ≡ length frames.now + 1 }

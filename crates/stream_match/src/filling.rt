@@ -76,14 +76,14 @@ fn fill_open(cells: &mut List<Option<Elem>>, input: &[u8], stretch: Stretch) -> 
         fill_empty(cells, stretch.count)?;
         return Ok(stretch.count);
     }
-    let given = given(input, stretch.first, stretch.count);
-    fill_given(cells, input, stretch.first, given)?;
-    fill_empty(cells, stretch.count - given)?;
-    Ok(stretch.count - given)
+    let there = in_input(input, stretch.first, stretch.count);
+    fill_given(cells, input, stretch.first, there)?;
+    fill_empty(cells, stretch.count - there)?;
+    Ok(stretch.count - there)
 }
 
-/// How many of so many positions from a first one on the input has.
-fn given(input: &[u8], first: u64, count: u32) -> u32
+/// How many of the `count` positions from `first` on the input has.
+fn in_input(input: &[u8], first: u64, count: u32) -> u32
     ensures { result ≡ min count (length input.now - first) }
 {
     let left = (input.len() as u64).saturating_sub(first);

@@ -14,7 +14,7 @@ pub(crate) struct Nearby {
 }
 
 impl Nearby {
-    /// The first places of so many streams.
+    /// The first places of `streams` streams.
     pub(crate) fn new(alloc: Global, streams: usize) -> Result<Nearby, Memory> {
         let mut places = Vec::new(alloc);
         places.resize(streams, 0)?;

@@ -1,5 +1,5 @@
 ghost use Rattle.std.specs.Prelude.{◌≡◌, ◌^◌, ◌<◌, true, length, slice_index};
-ghost use Rattle.flow_core_epochs.specs.Epoch.{number_in};
+ghost use Rattle.flow_core_epochs.specs.Epoch.{number_among};
 ghost use Rattle.stream_match.specs.EpochCode.{Ascend};
 
 /// The number of an activation among frames, if it is one of them. Where all activations from the first frame to it are frames, its distance
@@ -7,7 +7,7 @@ ghost use Rattle.stream_match.specs.EpochCode.{Ascend};
 pub(crate) fn number_of(frames: &[u32], activation: u32) -> Option<u32>
     requires ascend { Ascend frames.now }
     requires few { length frames.now < 2 ^ 32 }
-    ensures { result ≡ number_in frames.now activation }
+    ensures { result ≡ number_among frames.now activation }
 {
     let by_first = number_by_first(frames, activation);
     if is_at(frames, by_first, activation) {

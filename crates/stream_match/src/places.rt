@@ -9,7 +9,7 @@ use crate::stretch::Stretch;
 use os_io::{List, Memory};
 use std::alloc::Global;
 
-/// The place of each position of stretches, in order. Room for so many places is taken at first; there may be more or fewer.
+/// The place of each position of stretches, in order. Room for `room` places is taken at first; there may be more or fewer.
 pub(crate) fn places_in(
     alloc: Global,
     stretches: &[Stretch],

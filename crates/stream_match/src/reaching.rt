@@ -4,7 +4,7 @@ ghost use Rattle.stream_match_layouts.specs.declared.span.Span.{Span};
 ghost use Rattle.stream_match.specs.declared.stretch.Stretch.{Stretch};
 ghost use Rattle.stream_match_layouts.specs.Layout.{IsLayout};
 ghost use Rattle.stream_match.specs.Weave.{total};
-ghost use Rattle.stream_match.specs.EpochPlan.{AreFrames, read_reach, leaves_from, staying, leaving_reach, leaving_reaches};
+ghost use Rattle.stream_match.specs.EpochPlan.{AscendInLayout, read_reach, leaves_from, staying, leaving_reach, leaving_reaches};
 ghost use Rattle.stream_match.specs.EpochCode.{pieces_for, left_piece, left_pieces, stretches_from, with_positions, reads_before, read_part};
 
 use crate::pieces::reads;
@@ -33,7 +33,7 @@ pub(crate) struct Left {
 /// What frames read, frame by frame.
 pub(crate) fn reading(alloc: Global, layout: &Layout, frames: &[u32]) -> Result<Reaching, Memory>
     requires layout { IsLayout layout.now }
-    requires frames { AreFrames layout.now frames.now }
+    requires frames { AscendInLayout layout.now frames.now }
     ensures stretches { IfOk result (λ r. r.stretches ≡ with_positions (flat_map (read_part layout.now frames.now) (range_with_len 0 (length frames.now)))) }
     ensures next { IfOk result (λ r. r.next ≡ reads_before layout.now frames.now (length frames.now)) }
 {
@@ -56,7 +56,7 @@ pub(crate) fn leaving(
     next: u32,
 ) -> Result<Left, Memory>
     requires layout { IsLayout layout.now }
-    requires frames { AreFrames layout.now frames.now }
+    requires frames { AscendInLayout layout.now frames.now }
     requires cursors { length cursors.now ≡ length layout.now.writers }
     requires small { All (λ cursor. cursor < 2 ^ 62) cursors.now }
     requires next { next ≡ reads_before layout.now frames.now (length frames.now) }

@@ -7,7 +7,7 @@ pub struct Stretch {
     pub stream: u32,
     /// The first position.
     pub first: u64,
-    /// How many positions there are, and so many cells.
+    /// How many positions there are; there are as many cells.
     pub count: u32,
     /// The first of the cells.
     pub at: u32,

@@ -4,7 +4,7 @@ ghost use Rattle.std.specs.List.{flat_map};
 ghost use Rattle.stream_match_layouts.specs.Layout.{IsLayout};
 ghost use Rattle.stream_match.specs.declared.stretch.Stretch.{Stretch};
 ghost use Rattle.stream_match.specs.Weave.{Reach, IsWoven};
-ghost use Rattle.stream_match.specs.EpochPlan.{AreFrames, weave_over};
+ghost use Rattle.stream_match.specs.EpochPlan.{AscendInLayout, weave_over};
 ghost use Rattle.stream_match.specs.Kept.{kept_of};
 ghost use Rattle.stream_match.specs.EpochCode.{AreSorted, IsEmpty, empty_in, filled_cells, IsRead, IsLeft, CanLeave};
 
@@ -30,7 +30,7 @@ pub(crate) fn weave_rows(
     input: &[u8],
 ) -> Result<Plan, Memory>
     requires layout { IsLayout layout.now }
-    requires frames { AreFrames layout.now frames.now }
+    requires frames { AscendInLayout layout.now frames.now }
     requires read { IsRead layout.now frames.now read.now }
     requires left { (sink : List Reach) × CanLeave layout.now frames.now sink × IsLeft layout.now frames.now sink left.now }
     requires kept { AreSorted kept.now }
@@ -66,7 +66,7 @@ pub(crate) fn weave_rows(
     })
 }
 
-/// The cells of what so many frames read and, with nothing in them, so many of what leaves: so many together.
+/// The cells of what `frames` frames read and, with nothing in them, the `left` cells of what leaves: `count` together.
 fn filled(
     alloc: Global,
     frames: usize,

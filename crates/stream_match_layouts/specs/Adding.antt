@@ -1,6 +1,7 @@
 -- What adding a claim needs and does.
 use Rattle.std.specs.Prelude.{◌≡◌, ℕ, ◌+◌, ◌^◌, ◌<◌, List, [], ◌∷◌, ◌++◌, length, slice_index, slice_index_or, slice_set, if◌then◌else◌}
 use Rattle.flow_core_laws.specs.declared.claim.Claim.{Claim}
+use Rattle.stream_match_layouts.specs.Cursors.{first_from, reads_behind, span_from, writes_behind}
 use Rattle.stream_match_layouts.specs.declared.layout.Layout.{Layout}
 
 -- no number of the layout passes the end of its type with one more claim
@@ -14,17 +15,14 @@ pub record HasRoom (layout : Layout) (claim : Claim) : Type 0 where
 
 -- where a claim begins by the cursors
 abbrev pub first_by : Layout → Claim → ℕ
-first_by layout claim =
-    if claim.write then slice_index layout.writes claim.stream else slice_index layout.reads claim.stream + claim.skip
+first_by layout claim = first_from layout.reads layout.writes claim
 
 -- the cursors after a claim
 abbrev pub reads_after : Layout → Claim → List ℕ
-reads_after layout claim =
-    if claim.write then layout.reads else slice_set layout.reads claim.stream (first_by layout claim + claim.burst)
+reads_after layout claim = reads_behind layout.reads layout.writes claim
 
 abbrev pub writes_after : Layout → Claim → List ℕ
-writes_after layout claim =
-    if claim.write then slice_set layout.writes claim.stream (first_by layout claim + claim.horizon) else layout.writes
+writes_after layout claim = writes_behind layout.reads layout.writes claim
 
 -- the writers after a claim
 abbrev pub writers_after : Layout → Claim → List (List ℕ)
@@ -34,15 +32,7 @@ writers_after layout claim =
 -- the layout with one more claim
 abbrev pub with_claim : Layout → ℕ → Claim → ℕ → Layout
 with_claim layout frame claim offset = record {
-  spans =
-      layout.spans ++ record {
-        frame = frame;
-        stream = claim.stream;
-        write = claim.write;
-        first = first_by layout claim;
-        count = claim.horizon;
-        offset = offset;
-      } ∷ [];
+  spans = layout.spans ++ span_from (first_by layout claim) frame claim offset ∷ [];
   starts = layout.starts;
   writers = writers_after layout claim;
   reads = reads_after layout claim;

@@ -5,7 +5,7 @@ use Rattle.flow_core_laws.specs.declared.claim.Claim.{Claim}
 use Rattle.flow_core_laws.specs.declared.activation.Activation.{Activation}
 use Rattle.flow_core_laws.specs.Window.{claims_of}
 
--- A claim on one of so many streams: it covers 1 to 65,536 positions, nobody writes the input or reads
+-- A claim on one of `streams` streams: it covers 1 to 65,536 positions, nobody writes the input or reads
 -- the output, and a write claim moves its cursor by what it covers.
 pub record IsLawfulClaim (streams : ℕ) (claim : Claim) : Type 0 where
   pub stream_exists : claim.stream < streams

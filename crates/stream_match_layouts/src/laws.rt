@@ -6,7 +6,7 @@ ghost use Rattle.flow_core_laws.specs.declared.activation.Activation.{Activation
 ghost use Rattle.stream_match_layouts.specs.declared.layout.Layout.{Layout};
 ghost use Rattle.stream_match_layouts.specs.Layout.{IsLayoutOf};
 
-/// Activations have one layout over so many streams and an input of this length. So a layout that
+/// Activations have one layout over a given number of streams and an input of a given length. So a layout that
 /// took them in parts is the one that took them at once.
 pub fn one_layout()
     ensures { (one other : Layout) (activations : List Activation)

@@ -35,7 +35,7 @@ pub struct Layout {
 }
 
 impl Layout {
-    /// The layout of no activation, over so many streams: 0 is the input, 1 the output.
+    /// The layout of no activation, over `streams` streams: 0 is the input, 1 the output.
     pub fn new(alloc: Global, streams: u32, input_len: u32) -> Result<Layout, Memory>
         requires { 2 ≤ streams }
         ensures empty { IfOk result (λ layout. IsLayoutOf layout []) }
@@ -118,7 +118,7 @@ impl Layout {
         Ok(())
     }
 
-    /// Adds a claim of an activation, where its windows before this one take so many inputs or outputs.
+    /// Adds a claim of an activation, where its windows before this one take `offset` inputs or outputs.
     #[inline(always)]
     fn take(&mut self, frame: u16, claim: &Claim, offset: u32) -> Result<(), Memory>
         requires { HasRoom self.old claim.now }

@@ -15,6 +15,7 @@ mod ranges;
 pub mod registers;
 mod running;
 mod scratch;
+mod stopping;
 mod task;
 
 pub use scratch::Scratch;

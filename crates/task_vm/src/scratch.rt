@@ -75,7 +75,7 @@ impl Scratch {
     }
 }
 
-/// Fills a room up with zeros, until it holds so many slots.
+/// Fills a room up with zeros, until it holds `count` slots.
 pub(crate) fn reach(slots: &mut Room<i32>, count: usize)
     requires { count ≤ length slots.old.items + slots.old.spare }
     ensures items { slots.new.items ≡ slots.old.items ++ replicate (count - length slots.old.items) (pos 0) }

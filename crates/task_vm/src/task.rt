@@ -8,7 +8,7 @@ ghost use Rattle.flow_core_laws.specs.declared.claim.Claim.{Claim as TheClaim};
 ghost use Rattle.flow_core_laws.specs.Streams.{output_count};
 ghost use Rattle.os_code.specs.Codes.{parts_of};
 ghost use Rattle.os_code.specs.Machine.{most_steps};
-ghost use Rattle.os_code.specs.Outcomes.{task_outcome};
+ghost use Rattle.os_code.specs.Outcomes.{code_outcome};
 ghost use Rattle.flow_core_laws.specs.Byte.{is_byte};
 ghost use Rattle.os_code.specs.Tasks.{Fits, input_count, TaskEnds};
 ghost use Rattle.task_vm.specs.Ending.{all_bytes_from, end_of, IsSiteLine};
@@ -17,11 +17,12 @@ ghost use Rattle.task_vm.specs.Space.{IsMadeFor};
 ghost use Rattle.task_vm.specs.Turns.{TakesTurns};
 
 use crate::registers::{fill_frame, unit_at};
-use crate::running::{TaskHalt, run};
+use crate::running::run;
 use crate::scratch::{Scratch, reach};
+use crate::stopping::TaskHalt;
 use c_int::Trap;
 use flow_core_laws::{Activation, Claim, TaskEnd};
-use os_code::{Code, Unit};
+use os_code::{Code, CodeUnit};
 
 /// Runs the task of an activation to its end. The inputs are the elements of its input windows, item by item; the
 /// outputs are those of its output windows, which are 0 at the start.
@@ -43,13 +44,13 @@ pub fn run_task(
     requires made { IsMadeFor (parts_of code.now) scratch.old }
     requires budget { budget ≤ budget_limit }
     // how it ends is the machine's meaning
-    ensures end { result ≡ (task_outcome (parts_of code.now) activation.now inputs.now budget).end }
-    ensures outputs { result ≡ TaskEnd.Done → outputs.new ≡ (task_outcome (parts_of code.now) activation.now inputs.now budget).outputs }
-    // and it is that in so many steps
+    ensures end { result ≡ (code_outcome (parts_of code.now) activation.now inputs.now budget).end }
+    ensures outputs { result ≡ TaskEnd.Done → outputs.new ≡ (code_outcome (parts_of code.now) activation.now inputs.now budget).outputs }
+    // and it is that in as many steps as the scratch tells
     ensures steps { TaskEnds (parts_of code.now) activation.now inputs.now budget
-        (task_outcome (parts_of code.now) activation.now inputs.now budget) scratch.new.steps }
+        (code_outcome (parts_of code.now) activation.now inputs.now budget) scratch.new.steps }
     ensures few_steps { scratch.new.steps ≤ most_steps (parts_of code.now) budget }
-    // and takes so many turns of the budget
+    // and takes as many turns of the budget as the scratch tells
     ensures turns { TakesTurns (parts_of code.now) activation.now inputs.now budget scratch.new.turns }
     ensures made_again { IsMadeFor (parts_of code.now) scratch.new }
     ensures same_length { length outputs.new ≡ length outputs.old }
@@ -88,7 +89,7 @@ pub fn run_task(
 /// Where a task begins: its unit, and the line of its site.
 #[derive(Clone, Copy, Debug, PartialEq, Eq)]
 struct Entry {
-    unit: Unit,
+    unit: CodeUnit,
     line: u32,
 }
 

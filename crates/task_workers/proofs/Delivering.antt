@@ -11,13 +11,13 @@ use Rattle.flow_core_laws.specs.Outcome.{State}
 use Rattle.flow_core.specs.Waits.{OpensMore}
 use Rattle.flow_core_laws.specs.IsSound.{IsSound}
 use Rattle.flow_core.specs.Counted.{IsCounted, IsUnfed}
-use Rattle.flow_core.specs.Shows.{Shows, Gives}
+use Rattle.flow_core.specs.Shows.{Shows, HasOutcome}
 use Rattle.flow_core.specs.Board.{IsRun}
 use Rattle.flow_core.proofs.Carrying.{OpensMore-trans, OpensMore-none}
 use Rattle.flow_core.proofs.Showing.{AreEmpty-waiting}
 use Rattle.flow_core.proofs.Running.{IsRun-more, IsRun-fewer}
 use Rattle.task_workers_round.specs.Results.{AreResults, outputs_of, outputs_at, room_of}
-use Rattle.task_workers_round.proofs.Joining.{Gives-same, room_more, room_within}
+use Rattle.task_workers_round.proofs.Joining.{HasOutcome-same, room_more, room_within}
 
 -- the frames of the round that begins at a turn
 abbrev pub round_of : Board → ℕ → List ℕ
@@ -58,7 +58,7 @@ next_fits plan turn ends outputs old mid first k n f delivered lt is count room 
 pub next_empty : (plan : Plan) (m : State) (board : Board) (turn f : ℕ) → IsSound plan → IsRun plan m board turn → turn < length board.waits.opened.items → f ≡ get_or board.waits.opened.items turn 0 → IsUnfed plan f board.cells.items
 next_empty plan m board turn f sound run lt is = subst (λ (g : ℕ). IsUnfed plan g board.cells.items) (sym is) (AreEmpty-waiting plan m board.cells.items board.ends.items (get_or board.waits.opened.items turn 0) sound run.counted.cells_of_plan run.shows (let e = run.counted.opens_full.exist turn lt in let n = run.counted.frames_of_plan in omega arith) (run.wait_their_turn turn (omega arith) lt))
 
-pub HasDelivered-more : (plan : Plan) (turn : ℕ) (ends : List TaskEnd) (outputs stretch : List ℤ) (old mid new : Board) (first k n f : ℕ) (e : TaskEnd) (m0 : State) → CameTo plan turn ends outputs old m0 → HasDelivered plan turn ends outputs old mid first k → turn + k < length old.waits.opened.items → f ≡ get_or mid.waits.opened.items (turn + k) 0 → n ≡ outputs_of plan f → e ≡ get_or ends k Done → stretch ≡ between first (first + n) outputs → IsCounted plan new.cells.items new.waits → new.ends.items ≡ set mid.ends.items f (Some e) → OpensMore mid.waits new.waits → ((m : State) → Shows plan m mid.cells.items mid.ends.items → Gives m f e stretch → Shows plan m new.cells.items new.ends.items) → HasDelivered plan turn ends outputs old new (first + n) (k + 1)
+pub HasDelivered-more : (plan : Plan) (turn : ℕ) (ends : List TaskEnd) (outputs stretch : List ℤ) (old mid new : Board) (first k n f : ℕ) (e : TaskEnd) (m0 : State) → CameTo plan turn ends outputs old m0 → HasDelivered plan turn ends outputs old mid first k → turn + k < length old.waits.opened.items → f ≡ get_or mid.waits.opened.items (turn + k) 0 → n ≡ outputs_of plan f → e ≡ get_or ends k Done → stretch ≡ between first (first + n) outputs → IsCounted plan new.cells.items new.waits → new.ends.items ≡ set mid.ends.items f (Some e) → OpensMore mid.waits new.waits → ((m : State) → Shows plan m mid.cells.items mid.ends.items → HasOutcome m f e stretch → Shows plan m new.cells.items new.ends.items) → HasDelivered plan turn ends outputs old new (first + n) (k + 1)
 HasDelivered-more plan turn ends outputs stretch old mid new first k n f e m0 came0 delivered lt is count end part counted ends_set opens shows = record {
   runs = λ m came. subst (λ (i : ℕ). IsRun plan m new i) (omega arith) (IsRun-more plan m mid new (turn + k) e (delivered.runs m came) in_mid counted (shows m (delivered.runs m came).shows (gives m came)) opens set_at);
   opens = OpensMore-trans _ _ _ delivered.opens opens;
@@ -88,5 +88,5 @@ HasDelivered-more plan turn ends outputs stretch old mid new first k n f e m0 ca
         ∙ ap (λ (c : ℕ). between first (first + c) outputs) (sym count)
         ∙ sym part
 
-    gives : (m : State) → CameTo plan turn ends outputs old m → Gives m f e stretch
-    gives m came = Gives-same m _ _ _ _ _ _ (sym at_f) (sym end) stretch_at (came.1.gives k in_round)
+    gives : (m : State) → CameTo plan turn ends outputs old m → HasOutcome m f e stretch
+    gives m came = HasOutcome-same m _ _ _ _ _ _ (sym at_f) (sym end) stretch_at (came.1.gives k in_round)

@@ -6,13 +6,13 @@ ghost use Rattle.flow_core_laws.specs.IsSound.{IsSound};
 ghost use Rattle.flow_core_laws.specs.Serves.{Serves};
 
 use crate::rounds::run_rounds;
-use flow_core::{Board, Bodies, Elem, Ends, Plan};
+use flow_core::{Board, Bodies, Ends, Plan};
 use os_io::{List, Memory};
 use std::alloc::Global;
 use std::thread::Threads;
 use task_workers_round::{Gate, Results, hire, most_outputs, run_alone};
 
-/// Runs a plan round by round on so many workers, 1 to 64. The frames of a round that may run are given
+/// Runs a plan round by round on `workers` workers, 1 to 64. The frames of a round that may run are given
 /// to the workers by parts of their list, and what they came to is delivered before the next round.
 /// A round of few frames gets few of the workers, and one of a single frame starts no thread; where no
 /// thread can be made, the caller does the work. One worker runs frame by frame in the same order, with no rounds. All memory
@@ -44,7 +44,7 @@ pub fn execute_rounds<R: Threads + Sync, B: Bodies, G: Gate>(
     let mut results = Results::new(alloc, plan)?;
     let mut hired = hire(alloc, plan, bodies, hands)?;
     let mut board = Board::open(alloc, plan)?;
-    let opening = opening_ends(alloc, plan, &board)?;
+    let opening = board.close(alloc, plan)?;
     run_rounds(
         rt,
         plan,
@@ -77,7 +77,7 @@ fn execute_alone<B: Bodies, G: Gate>(
     outputs.resize(most_outputs(plan), 0)?;
     let mut hired = hire(alloc, plan, bodies, 1)?;
     let mut board = Board::open(alloc, plan)?;
-    let opening = opening_ends(alloc, plan, &board)?;
+    let opening = board.close(alloc, plan)?;
     run_alone(
         plan,
         bodies,
@@ -90,18 +90,6 @@ fn execute_alone<B: Bodies, G: Gate>(
     Ok(ends)
 }
 
-/// What a run has come to at opening: lists that are as long as what it comes to.
-fn opening_ends(alloc: Global, plan: &Plan, board: &Board) -> Result<Ends, Memory>
-    requires { plan.now.sink.cell + plan.now.sink.inputs ≤ length board.now.cells.items }
-    ensures ends { IfOk result (λ e. length e.ends ≡ length board.now.ends.items) }
-    ensures output { IfOk result (λ e. length e.output ≡ plan.now.sink.inputs) }
-{
-    Ok(Ends {
-        ends: List::from_slice(alloc, board.ends.as_slice())?,
-        output: List::from_slice(alloc, sink_cells(plan, board))?,
-    })
-}
-
 /// Puts what a run came to over what it had come to at opening: the ends, and the sink cells.
 fn collect(plan: &Plan, board: &Board, mut into: Ends) -> Ends
     requires exists { plan.now.sink.cell + plan.now.sink.inputs ≤ length board.now.cells.items }
@@ -112,19 +100,8 @@ fn collect(plan: &Plan, board: &Board, mut into: Ends) -> Ends
         ≡ slice_range board.now.cells.items plan.now.sink.cell (plan.now.sink.cell + plan.now.sink.inputs) }
 {
     put(&mut into.ends, board.ends.as_slice());
-    put(&mut into.output, sink_cells(plan, board));
+    put(&mut into.output, board.sink_cells(plan));
     into
-}
-
-/// The cells of the sink.
-fn sink_cells<'b>(plan: &Plan, board: &'b Board) -> &'b [Option<Elem>]
-    requires { plan.now.sink.cell + plan.now.sink.inputs ≤ length board.now.cells.items }
-    ensures cells { result.now
-        ≡ slice_range board.now.cells.items plan.now.sink.cell (plan.now.sink.cell + plan.now.sink.inputs) }
-    ensures length { length result.now ≡ plan.now.sink.inputs }
-{
-    let first = plan.sink.cell as usize;
-    &board.cells[first..first + plan.sink.inputs as usize]
 }
 
 /// Replaces the items of a list by others, as many as it has.

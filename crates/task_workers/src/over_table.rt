@@ -15,7 +15,7 @@ use std::thread::Threads;
 use task_workers_crew::{gather_ends, gather_output, hire, run_logged};
 use task_workers_round::Gate;
 
-/// Runs a plan on so many workers, 1 to 64, over one table of atomic words. The frames that are Open at
+/// Runs a plan on `workers` workers, 1 to 64, over one table of atomic words. The frames that are Open at
 /// opening are given to the workers' hands in turn; from then on each worker takes from its own hand and
 /// from those of the others, and looks for frames where it is given none. Each worker but one has a
 /// thread of its own; where one worker is asked for, no thread is started. All memory but that of threads

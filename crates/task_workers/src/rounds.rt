@@ -19,7 +19,7 @@ const FRAMES_A_THREAD: usize = 512;
 /// How many threads a run may start for fewer frames than that, since frames may be long ones.
 const THREADS_ON_TRIAL: usize = 256;
 
-/// How many of the workers a round of so many frames gets: those that the frames are worth, and of the
+/// How many of the workers a round of `frames` frames gets: those that the frames are worth, and of the
 /// others one for each frame, as long as there are threads left to try.
 fn workers_for(frames: usize, workers: usize, on_trial: &mut usize) -> usize
     requires { (1 ≤ frames) × (1 ≤ workers) }

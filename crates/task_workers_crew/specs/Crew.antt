@@ -1,5 +1,5 @@
 -- Workers before and after they work.
-use Rattle.std.specs.Prelude.{◌≡◌, ℕ, ◌+◌, ◌*◌, ◌≤◌, List, [], length, map, max, sum_by, Option, Some, None}
+use Rattle.std.specs.Prelude.{◌≡◌, ℕ, ◌+◌, ◌≤◌, List, [], length, map, sum_by, Option, Some, None}
 use Rattle.flow_core_laws.specs.declared.plan.Plan.{Plan}
 use Rattle.flow_core_concurrent.specs.States.{times}
 use Rattle.frame_table.specs.declared.seat.FrameSeat.{FrameSeat}
@@ -10,7 +10,7 @@ use Rattle.steal_pool.specs.Hands.{bound_of, spare_of}
 use Rattle.task_workers_worker.specs.declared.log.WorkLog.{WorkLog}
 use Rattle.task_workers_worker.specs.Logs.{FitsWindows}
 use Rattle.task_workers_worker.specs.Worked.{unmade}
-use Rattle.task_workers_worker.specs.Ready.{MayWork, frames_of}
+use Rattle.task_workers_worker.specs.Ready.{MayWork, frames_of, looks_of}
 use Rattle.task_workers_crew.specs.declared.crew.Worker.{Worker}
 
 -- A hand takes the numbers of frames. Of the frames from a number on it takes each, and of those below it each that
@@ -25,7 +25,7 @@ pub record IsEquipped (plan : Plan) (hand : Hand) (log : WorkLog) : Type 0 where
   pub takes_frames : length plan.frames ≤ log.frames.spare
   pub fits_windows : FitsWindows plan log
 
--- A worker has a seat, with so many shares, on which it may work.
+-- A worker has a seat, with `shares` shares, on which it may work.
 abbrev pub IsSeated : FrameTable → ℕ → Option FrameSeat → Hand → WorkLog → Type 0
 IsSeated table shares None hand log = ⊥
 IsSeated table shares (Some seat) hand log = MayWork table seat hand log × ((view_of seat).shares ≡ shares)
@@ -33,7 +33,7 @@ IsSeated table shares (Some seat) hand log = MayWork table seat hand log × ((vi
 -- A worker looked for frames until it may leave.
 abbrev pub HasLooked : FrameTable → Option FrameSeat → Type 0
 HasLooked table None = ⊥
-HasLooked table (Some seat) = 1 ≤ frames_of table → max (4 * frames_of table) 65536 ≤ (view_of seat).looks
+HasLooked table (Some seat) = 1 ≤ frames_of table → looks_of table ≤ (view_of seat).looks
 
 -- the frames that the worker of a seat ran, in order; none without a seat
 abbrev pub ran_of : Option FrameSeat → List ℕ

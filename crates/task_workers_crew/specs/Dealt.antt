@@ -13,14 +13,14 @@ abbrev pub open_below : Plan → ℕ → List ℕ
 open_below plan zero = []
 open_below plan (suc n) = open_below plan n ++ (if (frame_at plan n).wait == 0 then n ∷ [] else [])
 
--- of a list one item in so many, after some that are left out
+-- of a list one item in `many`, after the first `skip`, which are left out
 abbrev pub one_in : ℕ → ℕ → List ℕ → List ℕ
 one_in many skip [] = []
 one_in many zero (x ∷ xs) = x ∷ one_in many (many - 1) xs
 one_in many (suc skip) (x ∷ xs) = one_in many skip xs
 
 -- Each frame that is Open at opening was pushed to one hand, once, and no other frame was. They were given to the hands in
--- turn: of so many hands, hand i got frame i of those that are Open, and from there on one in so many.
+-- turn: of n hands, hand i got frame i of those that are Open, and every n-th one behind it.
 pub record AreDealt (plan : Plan) (hands : List Hand) : Type 0 where
   pub once : (f : ℕ) → f < length plan.frames → sum_by (λ h. times f (pushed_by h)) hands ≡ one ((frame_at plan f).wait == 0)
   pub in_turn : (i : ℕ) (d : Hand) → i < length hands →

@@ -1,10 +1,10 @@
 //! Workers in threads of their own.
-ghost use Rattle.std.specs.Prelude.{◌≡◌, ◌*◌, ◌≤◌, ◌<◌, ◌++◌, ℕ, List, All, length, max, slice_index_or};
+ghost use Rattle.std.specs.Prelude.{◌≡◌, ◌≤◌, ◌<◌, ◌++◌, ℕ, List, All, length, slice_index_or};
 ghost use Rattle.flow_core_laws.specs.Plans.{plan_meaning};
 ghost use Rattle.flow_core_laws.specs.Serves.{Serves};
 ghost use Rattle.frame_table.specs.Tokens.{known_of, view_of};
 ghost use Rattle.steal_pool.specs.Hands.{KeepsDeques};
-ghost use Rattle.task_workers_worker.specs.Ready.{MayWork, frames_of};
+ghost use Rattle.task_workers_worker.specs.Ready.{MayWork, frames_of, looks_of};
 ghost use Rattle.task_workers_crew.specs.Crew.{IsSeated, HasLooked, HasLogged, ran_of};
 
 use flow_core_laws::Bodies;
@@ -60,7 +60,7 @@ pub(crate) fn work_on<S: Send + Drop, B: Bodies<Scratch = S>, G: Gate>(
     ensures logged { (newly : List ℕ) × ((view_of result).ran ≡ (view_of seat).ran ++ newly)
         × (worker.new.log.frames.items ≡ worker.old.log.frames.items ++ newly) }
     ensures fits { B.fits bodies.now worker.new.scratch }
-    ensures looks { 1 ≤ frames_of table.now → max (4 * frames_of table.now) 65536 ≤ (view_of result).looks }
+    ensures looks { 1 ≤ frames_of table.now → looks_of table.now ≤ (view_of result).looks }
     ensures deques { KeepsDeques worker.old.hand worker.new.hand }
     ensures number { worker.new.log.worker ≡ worker.old.log.worker }
 {

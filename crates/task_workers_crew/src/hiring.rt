@@ -93,7 +93,7 @@ fn equip<B: Bodies>(
     })
 }
 
-/// So many workers, numbered from 0 on, each with what it works with but a seat. Their hands have the frames that are Open at
+/// As many workers as `workers` says, numbered from 0 on, each with what it works with but a seat. Their hands have the frames that are Open at
 /// opening, given to them in turn, and steal from one another.
 pub fn hire<B: Bodies>(
     alloc: Global,

@@ -12,12 +12,12 @@ use Rattle.flow_core_laws.specs.declared.plan.Plan.{Plan}
 use Rattle.flow_core_laws.specs.declared.task_end.TaskEnd.{TaskEnd}
 use Rattle.flow_core_laws.specs.declared.task_end.TaskEnd.TheVariants.{Done}
 use Rattle.flow_core_laws.specs.Outcome.{State}
-use Rattle.flow_core.specs.Shows.{Gives}
+use Rattle.flow_core.specs.Shows.{HasOutcome}
 use Rattle.task_workers_round.specs.Results.{outputs_of, room_of, outputs_at, AreResults}
 
 -- what a frame came to, said of equals
-pub Gives-same : (m : State) (f g : ℕ) (d e : TaskEnd) (xs ys : List ℤ) → f ≡ g → d ≡ e → xs ≡ ys → Gives m f d xs → Gives m g e ys
-Gives-same m f g d e xs ys at is has h = subst (λ (x : ℕ). Gives m x e ys) at (subst (λ (x : TaskEnd). Gives m f x ys) is (subst (λ (x : List ℤ). Gives m f d x) has h))
+pub HasOutcome-same : (m : State) (f g : ℕ) (d e : TaskEnd) (xs ys : List ℤ) → f ≡ g → d ≡ e → xs ≡ ys → HasOutcome m f d xs → HasOutcome m g e ys
+HasOutcome-same m f g d e xs ys at is has h = subst (λ (x : ℕ). HasOutcome m x e ys) at (subst (λ (x : TaskEnd). HasOutcome m f x ys) is (subst (λ (x : List ℤ). HasOutcome m f d x) has h))
 
 -- a stretch within a common front
 same_between : (xs ys : List ℤ) (a b : ℕ) → take b xs ≡ take b ys → between a b xs ≡ between a b ys
@@ -57,9 +57,9 @@ pub record HaveRun (plan : Plan) (meaning : State) (frames : List ℕ) (ends : L
   pub end_each : length ends ≡ length frames
   pub room : length outputs ≡ room_of plan frames
   pub at : first ≡ room_of plan (take k frames)
-  pub gives : (j : ℕ) → j < k → j < length frames → Gives meaning (slice_index frames j) (slice_index_or ends j Done) (outputs_at plan frames outputs j)
+  pub gives : (j : ℕ) → j < k → j < length frames → HasOutcome meaning (slice_index frames j) (slice_index_or ends j Done) (outputs_at plan frames outputs j)
 
-pub HaveRun-more : (plan : Plan) (m : State) (frames : List ℕ) (ends : List TaskEnd) (outputs stretch : List ℤ) (first k n : ℕ) (e : TaskEnd) → HaveRun plan m frames ends outputs first k → k < length frames → n ≡ outputs_of plan (slice_index frames k) → length stretch ≡ n → Gives m (slice_index frames k) e stretch → HaveRun plan m frames (set ends k e) (put_mid first (first + n - first) outputs stretch) (first + n) (k + 1)
+pub HaveRun-more : (plan : Plan) (m : State) (frames : List ℕ) (ends : List TaskEnd) (outputs stretch : List ℤ) (first k n : ℕ) (e : TaskEnd) → HaveRun plan m frames ends outputs first k → k < length frames → n ≡ outputs_of plan (slice_index frames k) → length stretch ≡ n → HasOutcome m (slice_index frames k) e stretch → HaveRun plan m frames (set ends k e) (put_mid first (first + n - first) outputs stretch) (first + n) (k + 1)
 HaveRun-more plan m frames ends outputs stretch first k n e run lt count len gave = record {
   end_each = length-set ends k e ∙ run.end_each;
   room = same_length ∙ run.room;
@@ -80,17 +80,17 @@ HaveRun-more plan m frames ends outputs stretch first k n e run lt count len gav
     has : (a : ℕ) → a ≡ first → between a (a + outputs_of plan (slice_index frames k)) new ≡ stretch
     has a is = subst (λ (x : ℕ). between a x new ≡ stretch) (ap (λ (x : ℕ). a + x) count) (subst (λ (x : ℕ). between x (x + n) new ≡ stretch) (sym is) (between-put_mid first (first + n - first) outputs stretch (first + n) (omega (arith, inside)) (omega arith)))
 
-    at_k : Gives m (slice_index frames k) (slice_index_or (set ends k e) k Done) (outputs_at plan frames new k)
-    at_k = Gives-same m _ _ _ _ _ _ refl (sym (get_or-set_same ends k e Done (let each = run.end_each in omega arith))) (sym (has (room_of plan (take k frames)) (sym run.at))) gave
+    at_k : HasOutcome m (slice_index frames k) (slice_index_or (set ends k e) k Done) (outputs_at plan frames new k)
+    at_k = HasOutcome-same m _ _ _ _ _ _ refl (sym (get_or-set_same ends k e Done (let each = run.end_each in omega arith))) (sym (has (room_of plan (take k frames)) (sym run.at))) gave
 
-    by_case : (j : ℕ) → j < k + 1 → j < length frames → (j < k) ⊎ (k ≤ j) → Gives m (slice_index frames j) (slice_index_or (set ends k e) j Done) (outputs_at plan frames new j)
+    by_case : (j : ℕ) → j < k + 1 → j < length frames → (j < k) ⊎ (k ≤ j) → HasOutcome m (slice_index frames j) (slice_index_or (set ends k e) j Done) (outputs_at plan frames new j)
     by_case j h l (inl earlier) =
         let below = room_before plan frames j k earlier l in
         let a = run.at in
-        Gives-same m _ _ _ _ _ _ refl (sym (get_or-set_other ends k j e Done (λ same. absurd (omega arith))))
+        HasOutcome-same m _ _ _ _ _ _ refl (sym (get_or-set_other ends k j e Done (λ same. absurd (omega arith))))
         (same_between outputs new _ _ (sym (take-put_mid_below first (first + n - first) outputs stretch (room_of plan (take j frames) + outputs_of plan (slice_index frames j)) (omega arith) (omega (arith, inside)))))
         (run.gives j earlier l)
-    by_case j h l (inr later) = subst (λ (x : ℕ). Gives m (slice_index frames x) (slice_index_or (set ends k e) x Done) (outputs_at plan frames new x)) (omega arith) at_k
+    by_case j h l (inr later) = subst (λ (x : ℕ). HasOutcome m (slice_index frames x) (slice_index_or (set ends k e) x Done) (outputs_at plan frames new x)) (omega arith) at_k
 
 -- the results of two lists of frames, one behind the other
 pub AreResults-append : (plan : Plan) (m : State) (front back : List ℕ) (front_ends back_ends : List TaskEnd) (front_outputs back_outputs : List ℤ) → length front_ends ≡ length front → length front_outputs ≡ room_of plan front → AreResults plan m front front_ends front_outputs → AreResults plan m back back_ends back_outputs → AreResults plan m (front ++ back) (front_ends ++ back_ends) (front_outputs ++ back_outputs)
@@ -127,11 +127,11 @@ AreResults-append plan m front back front_ends back_ends front_outputs back_outp
         ∙ ap (λ (x : ℕ). between x (x + n) outputs) (sym before)
         ∙ ap (λ (f : ℕ). between (room_of plan (take k (front ++ back))) (room_of plan (take k (front ++ back)) + outputs_of plan f) outputs) (sym at)
 
-    by_case : (k : ℕ) → k < length (front ++ back) → (k < length front) ⊎ (length front ≤ k) → Gives m (slice_index (front ++ back) k) (slice_index_or (front_ends ++ back_ends) k Done) (outputs_at plan (front ++ back) outputs k)
-    by_case k lt (inl inside) = Gives-same m _ _ _ _ _ _ (sym (get_or_append_left front back 0 k inside)) (sym (get_or_append_left front_ends back_ends Done k (omega arith))) (same_front k inside) (in_front.gives k inside)
+    by_case : (k : ℕ) → k < length (front ++ back) → (k < length front) ⊎ (length front ≤ k) → HasOutcome m (slice_index (front ++ back) k) (slice_index_or (front_ends ++ back_ends) k Done) (outputs_at plan (front ++ back) outputs k)
+    by_case k lt (inl inside) = HasOutcome-same m _ _ _ _ _ _ (sym (get_or_append_left front back 0 k inside)) (sym (get_or_append_left front_ends back_ends Done k (omega arith))) (same_front k inside) (in_front.gives k inside)
     by_case k lt (inr behind) =
         let l : k - length front < length back = omega (arith, length-append front back) in
-        Gives-same m _ _ _ _ _ _ (sym (get_or-append_right front back (length front) k 0 refl behind)) (sym (get_or-append_right front_ends back_ends (length front) k Done end_each behind)) (same_back k (k - length front) (omega arith) l) (in_back.gives (k - length front) l)
+        HasOutcome-same m _ _ _ _ _ _ (sym (get_or-append_right front back (length front) k 0 refl behind)) (sym (get_or-append_right front_ends back_ends (length front) k Done end_each behind)) (same_back k (k - length front) (omega arith) l) (in_back.gives (k - length front) l)
 
 -- the results of the first frames of a list, and of the rest
 pub AreResults-both : (plan : Plan) (m : State) (frames front back : List ℕ) (n : ℕ) (front_ends back_ends : List TaskEnd) (front_outputs back_outputs : List ℤ) → front ≡ take n frames → back ≡ drop n frames → length front_ends ≡ length front → length front_outputs ≡ room_of plan front → AreResults plan m front front_ends front_outputs → AreResults plan m back back_ends back_outputs → AreResults plan m frames (front_ends ++ back_ends) (front_outputs ++ back_outputs)

@@ -6,7 +6,7 @@ use Rattle.flow_core_laws.specs.declared.task_end.TaskEnd.TheVariants.{Done}
 use Rattle.flow_core.specs.declared.waits.Waits.{Waits}
 use Rattle.flow_core_laws.specs.Outcome.{State}
 use Rattle.flow_core_laws.specs.Plans.{frame_at}
-use Rattle.flow_core.specs.Shows.{Gives}
+use Rattle.flow_core.specs.Shows.{HasOutcome}
 
 -- How many elements a frame writes.
 abbrev pub outputs_of : Plan → ℕ → ℕ
@@ -26,4 +26,4 @@ outputs_at plan frames outputs k = slice_range outputs (room_of plan (take k fra
 
 -- Frames came to these ends, in their order, and those that are Done to these outputs.
 pub record AreResults (plan : Plan) (meaning : State) (frames : List ℕ) (ends : List TaskEnd) (outputs : List ℤ) : Type 0 where
-  pub gives : (k : ℕ) → k < length frames → Gives meaning (slice_index frames k) (slice_index_or ends k Done) (outputs_at plan frames outputs k)
+  pub gives : (k : ℕ) → k < length frames → HasOutcome meaning (slice_index frames k) (slice_index_or ends k Done) (outputs_at plan frames outputs k)

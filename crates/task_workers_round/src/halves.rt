@@ -19,7 +19,7 @@ use std::thread::{Threads, join_mut};
 /// How many workers at most get all their threads from one of them.
 const STARTED_BY_ONE: usize = 8;
 
-/// Runs frames of a round by so many workers, 1 to 64, each in a thread: a part of the frames by each part
+/// Runs frames of a round by the workers of a list, 1 to 64, each in a thread: a part of the frames by each part
 /// of the workers. Where no thread can be made, the caller does the work.
 ///
 /// The ends stand in the order of the frames, and so do the outputs, those of one frame behind those of
@@ -126,7 +126,7 @@ fn sent_off(workers: usize) -> usize
     }
 }
 
-/// How many of the frames so many of the workers run.
+/// How many of the frames `some` of the `workers` workers run together.
 fn share_of(frames: usize, some: usize, workers: usize) -> usize
     requires frames { frames ≤ activations_limit }
     requires workers { (some ≤ workers) × (0 < workers) × (workers ≤ workers_limit) }

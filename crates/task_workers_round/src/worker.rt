@@ -1,4 +1,5 @@
 ghost use Rattle.std.specs.Prelude.{◌≡◌, ◌<◌, ◌≤◌, ◌+◌, List, Some, IsSome, IfOk, OnOk, All, length, slice_index};
+ghost use Rattle.flow_core_laws.specs.Limits.{workers_limit};
 ghost use Rattle.flow_core_laws.specs.declared.elem.Elem.{Elem};
 ghost use Rattle.flow_core_laws.specs.Round.{gathered};
 ghost use Rattle.flow_core_laws.specs.Poisoning.{poisoning};
@@ -6,7 +7,7 @@ ghost use Rattle.flow_core_laws.specs.Plans.{plan_meaning};
 ghost use Rattle.flow_core_laws.specs.IsSound.{IsSound};
 ghost use Rattle.flow_core_laws.specs.Serves.{Serves};
 ghost use Rattle.flow_core.specs.Counted.{IsCounted};
-ghost use Rattle.flow_core.specs.Shows.{Shows, Gives};
+ghost use Rattle.flow_core.specs.Shows.{Shows, HasOutcome};
 ghost use Rattle.task_workers_round.specs.Results.{AreResults, MayRun, outputs_of, room_of};
 
 use crate::gate::Gate;
@@ -73,7 +74,7 @@ pub(crate) fn run_frame<B: Bodies, G: Gate>(
     requires room { length outputs.old ≡ outputs_of plan.now frame }
     requires fitting { B.fits bodies.now worker.old.scratch }
     ensures gives { IfOk result (λ end.
-        Gives (plan_meaning plan.now (B.outcome bodies.now)) frame end outputs.new) }
+        HasOutcome (plan_meaning plan.now (B.outcome bodies.now)) frame end outputs.new) }
     ensures fitting { B.fits bodies.now worker.new.scratch }
 {
     gate.at(worker.number, frame);
@@ -118,7 +119,7 @@ pub(crate) fn run_frames<B: Bodies, G: Gate>(
     Ok(())
 }
 
-/// So many workers, up to 64, numbered from 0 on, each with a scratch and with room for the inputs of any
+/// As many workers as `count` says, up to 64, numbered from 0 on, each with a scratch and with room for the inputs of any
 /// frame of a plan.
 pub fn hire<B: Bodies>(
     alloc: Global,
@@ -126,7 +127,7 @@ pub fn hire<B: Bodies>(
     bodies: &B,
     count: usize,
 ) -> Result<Vec<Worker<B::Scratch>>, Memory>
-    requires few { count ≤ 64 }
+    requires few { count ≤ workers_limit }
     ensures count { IfOk result (λ ws. length ws.items ≡ count) }
     ensures fitting { IfOk result (λ ws. All (λ w. B.fits bodies.now w.scratch) ws.items) }
 {

@@ -1,5 +1,5 @@
 -- What a worker needs.
-use Rattle.std.specs.Prelude.{◌≡◌, ℕ, ◌<◌, ◌≤◌, ◌^◌, None, length}
+use Rattle.std.specs.Prelude.{◌≡◌, ℕ, ◌*◌, ◌<◌, ◌≤◌, ◌^◌, None, length, max}
 use Rattle.frame_table.specs.declared.seat.FrameSeat.{FrameSeat}
 use Rattle.frame_table.specs.declared.table.FrameTable.{FrameTable}
 use Rattle.frame_table.specs.Tokens.{IsSeatOf, view_of, known_of}
@@ -12,6 +12,14 @@ use Rattle.task_workers_worker.specs.Worked.{unmade}
 
 abbrev pub frames_of : FrameTable → ℕ
 frames_of table = length (known_of table).plan.frames
+
+-- how many counted looks in a row it takes at least for a worker to leave
+abbrev pub least_looks : ℕ
+least_looks = 65536
+
+-- how many counted looks in a row it takes for a worker to leave: four for each frame, and at least `least_looks`
+abbrev pub looks_of : FrameTable → ℕ
+looks_of table = max (4 * frames_of table) least_looks
 
 -- The hand's numbers are frames, and it has room for each that waited at opening and that the seat didn't open yet.
 pub record HandServes (table : FrameTable) (seat : FrameSeat) (hand : Hand) : Type 0 where

@@ -45,6 +45,6 @@ pub record Gave (n : ℕ) (old new : View) (pushed pushed' : List ℕ) : Type 0 
   pub shares : new.shares ≡ old.shares
   pub looks : new.looks ≤ old.looks
 
--- how much is left to do before a worker comes to so many looks
+-- how much is left to do before a worker comes to `most` looks
 abbrev pub to_do : FrameTable → ℕ → FrameSeat → ℕ
 to_do table most seat = left_of (frames_of table) (view_of seat).ran * (most + 1) + (most - (view_of seat).looks)

@@ -3,7 +3,7 @@ ghost use Rattle.task_workers_worker.specs.Logs.{holds_up_to};
 
 use os_io::Room;
 
-/// Makes a room hold so many zeros.
+/// Makes a room hold `count` zeros.
 pub(crate) fn fill(room: &mut Room<i32>, count: usize)
     requires { count ≤ holds_up_to room.old }
     ensures long { length room.new.items ≡ count }

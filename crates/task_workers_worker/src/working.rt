@@ -1,11 +1,11 @@
 //! A worker that finds frames and runs them.
-ghost use Rattle.std.specs.Prelude.{◌≡◌, ◌+◌, ◌*◌, ◌<◌, ◌≤◌, ◌^◌, ℕ, max, length};
+ghost use Rattle.std.specs.Prelude.{◌≡◌, ◌+◌, ◌*◌, ◌<◌, ◌≤◌, ◌^◌, ℕ, length};
 ghost use Rattle.os_io.specs.Counts.{raised};
 ghost use Rattle.flow_core_laws.specs.Plans.{plan_meaning};
 ghost use Rattle.flow_core_laws.specs.Serves.{Serves};
 ghost use Rattle.frame_table.specs.Tokens.{view_of, known_of};
 ghost use Rattle.steal_pool.specs.Hands.{pushed_by, asks_of, KeepsDeques};
-ghost use Rattle.task_workers_worker.specs.Ready.{frames_of, MayWork};
+ghost use Rattle.task_workers_worker.specs.Ready.{frames_of, looks_of, MayWork};
 ghost use Rattle.task_workers_worker.specs.Turns.{to_do};
 ghost use Rattle.task_workers_worker.specs.Worked.{Worked};
 
@@ -16,6 +16,9 @@ use flow_core_laws::Bodies;
 use frame_table::{FrameSeat, FrameTable};
 use steal_pool::Hand;
 use task_workers_round::Gate;
+
+/// How many counted looks in a row it takes at least for a worker to leave.
+const LEAST_LOOKS: u64 = 65_536;
 
 // Asks the hand once, looks for a frame where it has none, and runs what was found.
 fn turn<B: Bodies, G: Gate>(
@@ -69,7 +72,7 @@ pub fn work<B: Bodies, G: Gate>(
     ensures worked { Worked (frames_of table.now) (view_of seat) (view_of result) (pushed_by hand.old)
         (pushed_by hand.new) log.old.frames.items log.new.frames.items }
     ensures worker { log.new.worker ≡ log.old.worker }
-    ensures looks { 1 ≤ frames_of table.now → max (4 * frames_of table.now) 65536 ≤ (view_of result).looks }
+    ensures looks { 1 ≤ frames_of table.now → looks_of table.now ≤ (view_of result).looks }
     ensures asks { (times : ℕ) × (raised (asks_of hand.old) times ≤ asks_of hand.new)
         × ((view_of seat).looks ≡ 0 → (view_of result).looks ≤ 65 * times) }
     ensures deques { KeepsDeques hand.old hand.new }
@@ -78,7 +81,7 @@ pub fn work<B: Bodies, G: Gate>(
     if frames == 0 {
         return seat;
     }
-    let most = (4 * frames).max(65536);
+    let most = (4 * frames).max(LEAST_LOOKS);
     while seat.looks() < most {
         turn(table, &mut seat, hand, bodies, scratch, log, gate);
     }

@@ -167,7 +167,7 @@ written n (x ∷ xs) [] e is = absurd (omega (arith, e))
 written zero (x ∷ xs) (y ∷ ys) e is = absurd (omega (arith, is))
 written (suc n) (x ∷ xs) (y ∷ ys) e is = ap (λ zs. x ∷ zs) (written n xs ys (omega (arith, e)) (omega (arith, is)))
 
--- so many of one item
+-- a list that was empty and got copies of one item has that item everywhere
 pub made_of : (n : ℕ) (old xs : List ℕ) (m x : ℕ) → old ≡ [] → xs ≡ take n old ++ replicate m x → (f : ℕ) → f < length xs → get_or xs f 0 ≡ x
 made_of n old xs m x empty is f lt =
     let none : take n old ≡ [] = ap (take n) empty ∙ take_all n [] (omega arith) in

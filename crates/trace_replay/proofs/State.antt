@@ -7,7 +7,7 @@ use Rattle.flow_core_laws.specs.declared.plan.Plan.{Plan}
 use Rattle.flow_core_laws.specs.declared.outcome.Outcome.{Outcome}
 use Rattle.flow_core_laws.specs.declared.task_end.TaskEnd.{TaskEnd}
 use Rattle.flow_core_laws.specs.Outcome.{outcome_at, State}
-use Rattle.flow_core_laws.specs.Element.{Source, initial, fed, nobody, written, output_at}
+use Rattle.flow_core_laws.specs.Element.{Source, initial, fed, nobody, element_written, output_at}
 use Rattle.flow_core_laws.specs.Round.{gathered, inputs_in, IsEnabled}
 use Rattle.flow_core_laws.specs.Poisoning.{poisoning}
 use Rattle.flow_core_laws.specs.Plans.{frame_at, number_at, cells_of, held_at, cell_source, plan_reads, plan_element, plan_meaning}
@@ -52,10 +52,10 @@ module _ (plan : Plan) (outcome : ℕ → List ℤ → Outcome) (lists : List (L
       by : (o : Option Outcome) → outcome_at behind f ≡ o → shown (number_at plan) board.ends.items (plan_meaning plan outcome) (fed f k) ≡ output_at (number_at plan) behind f k
       by None e =
           ap (λ (b : Bool). cond b (output_at (number_at plan) (plan_meaning plan outcome) f k) None) (stands.ended f ∙ ap is_some e)
-          ∙ sym (ap (option_and_then (λ (o : Outcome). written (number_at plan f) o k)) e)
+          ∙ sym (ap (option_and_then (λ (o : Outcome). element_written (number_at plan f) o k)) e)
       by (Some o) e =
           ap (λ (b : Bool). cond b (output_at (number_at plan) (plan_meaning plan outcome) f k) None) (stands.ended f ∙ ap is_some e)
-          ∙ ap (option_and_then (λ (o : Outcome). written (number_at plan f) o k)) (meant.kept f o e ∙ sym e)
+          ∙ ap (option_and_then (λ (o : Outcome). element_written (number_at plan f) o k)) (meant.kept f o e ∙ sym e)
 
   pub held_behind : (c : ℕ) → c < length board.cells.items → held_at board.cells.items c ≡ plan_element plan behind (cell_source plan c)
   held_behind c lt = stands.shows.cells_are_shown c lt ∙ shown_behind (cell_source plan c)

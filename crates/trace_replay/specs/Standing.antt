@@ -14,7 +14,7 @@ use Rattle.trace_replay_laws.specs.Orders.{IsLawful}
 use Rattle.trace_replay_laws.specs.Lists.{number_in, Taken, frames_of, taken_from, IsOrderOfHeads}
 use Rattle.trace_replay_laws.specs.Answers.{plan_after}
 
--- Heads were run in a lawful order, so many of each list, and the board shows the state behind it.
+-- Heads were run in a lawful order, of each list as many as its place says, and the board shows the state behind it.
 pub record Stands (plan : Plan) (outcome : ℕ → List ℤ → Outcome) (lists : List (List ℕ)) (places : List ℕ) (board : Board) : Type 0 where
   pub order : List Taken
   pub of_heads : IsOrderOfHeads lists order

@@ -20,4 +20,4 @@ mod replaying;
 
 pub use replaying::replay;
 pub use trace_replay_laws::Replayed;
-pub use trace_replay_text::{MOST_WORKERS, TraceError, print_trace, read_trace};
+pub use trace_replay_text::{TraceError, print_trace, read_trace};

@@ -34,7 +34,7 @@ pub(crate) fn first_stranger(frames: usize, lists: &[List<u32>]) -> Option<(u32,
     None
 }
 
-/// The head of a list of which so many numbers are used up, if one is left.
+/// The head of a list of which `place` numbers are used up, if one is left.
 pub(crate) fn head(lists: &[List<u32>], list: usize, place: usize) -> Option<u32>
     requires { list < length lists.now }
     ensures number { result ≡ number_in lists.now list place }

@@ -4,18 +4,19 @@ ghost use Rattle.flow_core_laws.specs.Limits.{workers_limit};
 ghost use Rattle.trace_replay_laws.specs.Lists.{AreBelow, IsFirstRepeat};
 ghost use Rattle.trace_replay.specs.Owners.{AreOwnersOf, OwnBefore};
 
+use flow_core_laws::WORKERS_LIMIT;
 use os_io::{List, Memory};
 use std::alloc::Global;
 
-/// The owner of a frame that stands in no list.
-const NOBODY: u32 = 64;
+/// The owner of a frame that stands in no list: all lists have lesser numbers.
+const NOBODY: u32 = WORKERS_LIMIT;
 
 /// Which list each frame stands in.
 #[derive(Drop)]
 pub(crate) enum Owners {
     /// By frame, the number of its list, or another number.
     Of(Vec<u32>),
-    /// There is none: this is the first frame that stood before.
+    /// The lists repeat a frame: this is the first that stands a second time.
     Repeat(u32),
 }
 
@@ -40,7 +41,7 @@ fn own(owners: &mut [u32], lists: &[List<u32>], list: usize) -> Option<u32>
     None
 }
 
-/// Which list each of so many frames stands in.
+/// Which list each of `frames` frames stands in.
 pub(crate) fn owners_of(alloc: Global, frames: usize, lists: &[List<u32>]) -> Result<Owners, Memory>
     requires few { length lists.now ≤ workers_limit }
     requires below { AreBelow frames lists.now }

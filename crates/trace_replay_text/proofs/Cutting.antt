@@ -6,7 +6,8 @@ use Rattle.std.proofs.lemmas.Fmt.{decimal_is_IsNumeral, decimal_injective}
 use Rattle.std.proofs.lemmas.Grind.{get_or_default_zero, flat_map-append}
 use Rattle.std.proofs.lemmas.Str.Parse.{numerals_by_value, tells_digits, not_in_digits}
 use Rattle.trace_replay_text.specs.Fields.{Begins, IsFree, IsCutAt}
-use Rattle.trace_replay_text.specs.Trace.{AreFrames, field}
+use Rattle.os_io.specs.Lines.{field}
+use Rattle.trace_replay_text.specs.Trace.{AreNumbers}
 
 pub record Cells (m n : ℕ) (a b : List ℕ) : Type 0 where
   pub first : m ≡ n
@@ -50,7 +51,7 @@ field_once m n x y small few bx by e =
     let both = cut_once 32 (decimal m) (decimal n) x y (free_decimal 32 m (omega arith) small) (free_decimal 32 n (omega arith) few) bx by tails.rest in
     (decimal_injective m n (omega arith) (omega arith) both.0, both.1)
 
-pub fields_once : (fs gs : List ℕ) → AreFrames fs → AreFrames gs → flat_map field fs ≡ flat_map field gs → fs ≡ gs
+pub fields_once : (fs gs : List ℕ) → AreNumbers fs → AreNumbers gs → flat_map field fs ≡ flat_map field gs → fs ≡ gs
 fields_once [] [] p q e = refl
 fields_once [] (g ∷ gs) p q e = absurd (cc)
 fields_once (f ∷ fs) [] p q e = absurd (cc)
@@ -68,23 +69,23 @@ no_field digits place cut none n rest small begins is =
     (front_and_rest place digits ∙ is) in
     none n small both.0
 
-pub none_onwards : (text rest : List ℕ) → ((frames : List ℕ) → AreFrames frames → text ≡ flat_map field frames → (others : List ℕ) × AreFrames others × (rest ≡ flat_map field others))
+pub none_onwards : (text rest : List ℕ) → ((frames : List ℕ) → AreNumbers frames → text ≡ flat_map field frames → (others : List ℕ) × AreNumbers others × (rest ≡ flat_map field others))
     → 0 < length rest
     → ((n : ℕ) (behind : List ℕ) → n < 2 ^ 32 → Begins 32 behind → rest ≡ field n ++ behind → ⊥)
-    → (frames : List ℕ) → AreFrames frames → text ≡ flat_map field frames → ⊥
+    → (frames : List ℕ) → AreNumbers frames → text ≡ flat_map field frames → ⊥
 none_onwards text rest onwards some none frames fit is = by_others (onwards frames fit is)
   where
-    by_others : (others : List ℕ) × AreFrames others × (rest ≡ flat_map field others) → ⊥
+    by_others : (others : List ℕ) × AreNumbers others × (rest ≡ flat_map field others) → ⊥
     by_others ([], p, e) = let z : length rest ≡ 0 = ap length e in omega (arith, z, some)
     by_others (n ∷ others, p, e) = none n (flat_map field others) p.0 (begins_fields others) e
 
 pub more_onwards : (text rest after : List ℕ) (frame : ℕ)
-    → ((frames : List ℕ) → AreFrames frames → text ≡ flat_map field frames → (others : List ℕ) × AreFrames others × (rest ≡ flat_map field others))
+    → ((frames : List ℕ) → AreNumbers frames → text ≡ flat_map field frames → (others : List ℕ) × AreNumbers others × (rest ≡ flat_map field others))
     → frame < 2 ^ 32 → rest ≡ field frame ++ after → Begins 32 after
-    → (frames : List ℕ) → AreFrames frames → text ≡ flat_map field frames → (others : List ℕ) × AreFrames others × (after ≡ flat_map field others)
+    → (frames : List ℕ) → AreNumbers frames → text ≡ flat_map field frames → (others : List ℕ) × AreNumbers others × (after ≡ flat_map field others)
 more_onwards text rest after frame onwards small here begins frames fit is = by_others (onwards frames fit is)
   where
-    by_others : (others : List ℕ) × AreFrames others × (rest ≡ flat_map field others) → (others : List ℕ) × AreFrames others × (after ≡ flat_map field others)
+    by_others : (others : List ℕ) × AreNumbers others × (rest ≡ flat_map field others) → (others : List ℕ) × AreNumbers others × (after ≡ flat_map field others)
     by_others ([], p, e) = absurd (let z : length rest ≡ 0 = ap length e in let some = ap length here in omega (arith, z, some))
     by_others (n ∷ others, p, e) =
         let both = field_once frame n after (flat_map field others) small p.0 begins (begins_fields others) (sym here ∙ e) in
@@ -100,9 +101,9 @@ fields_push text rest after frames new frame spelled here is =
     ∙ sym (append_assoc (flat_map field frames) (flat_map field (frame ∷ [])) after)
     ∙ ap (λ (r : List ℕ). r ++ after) (sym one) ∙ ap (λ (fs : List ℕ). flat_map field fs ++ after) (sym is)
 
-pub frames_push : (frames new : List ℕ) (frame : ℕ) → AreFrames frames → frame < 2 ^ 32 → new ≡ frames ++ frame ∷ [] → AreFrames new
-frames_push frames new frame fit small is = subst AreFrames (sym is) (pushed frames fit)
+pub frames_push : (frames new : List ℕ) (frame : ℕ) → AreNumbers frames → frame < 2 ^ 32 → new ≡ frames ++ frame ∷ [] → AreNumbers new
+frames_push frames new frame fit small is = subst AreNumbers (sym is) (pushed frames fit)
   where
-    pushed : (fs : List ℕ) → AreFrames fs → AreFrames (fs ++ frame ∷ [])
+    pushed : (fs : List ℕ) → AreNumbers fs → AreNumbers (fs ++ frame ∷ [])
     pushed [] p = (small, tt)
     pushed (f ∷ fs) p = (p.0, pushed fs p.1)

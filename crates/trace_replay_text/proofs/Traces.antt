@@ -2,7 +2,7 @@
 use Rattle.std.proofs.Common.{◌≡◌, ◌≢◌, ℕ, zero, suc, ◌+◌, ◌^◌, ◌<◌, ◌≤◌, ◌⊎◌, inl, inr, List, [], ◌∷◌, ◌++◌, length, refl, subst, sym, ap, ◌∙◌, append_assoc, append-nil, arith}
 use Rattle.std.specs.List.{AllByRecursion}
 use Rattle.trace_replay_text.specs.Laws.{TracesAreTold}
-use Rattle.trace_replay_text.specs.Trace.{AreFrames, IsFirstWrongLine, IsTraceOf, NoLine, lines_from, trace, worker_line}
+use Rattle.trace_replay_text.specs.Trace.{AreNumbers, IsFirstWrongLine, IsTraceOf, NoLine, lines_from, trace, worker_line}
 use Rattle.trace_replay_text.proofs.WorkerLines.{line_once}
 
 lines_push : (worker : ℕ) (lists : List (List ℕ)) (frames : List ℕ)
@@ -15,11 +15,11 @@ lines_push worker (l ∷ lists) frames =
     ∙ ap (λ (w : ℕ). (worker_line worker l ++ lines_from (suc worker) lists) ++ worker_line w frames)
     (let e : suc worker + length lists ≡ worker + length (l ∷ lists) = omega arith in e)
 
-pub lists_push : (lists new : List (List ℕ)) (frames : List ℕ) → AllByRecursion AreFrames lists → AreFrames frames → new ≡ lists ++ frames ∷ []
-    → AllByRecursion AreFrames new
-lists_push lists new frames fit also is = subst (λ (ls : List (List ℕ)). AllByRecursion AreFrames ls) (sym is) (pushed lists fit)
+pub lists_push : (lists new : List (List ℕ)) (frames : List ℕ) → AllByRecursion AreNumbers lists → AreNumbers frames → new ≡ lists ++ frames ∷ []
+    → AllByRecursion AreNumbers new
+lists_push lists new frames fit also is = subst (λ (ls : List (List ℕ)). AllByRecursion AreNumbers ls) (sym is) (pushed lists fit)
   where
-    pushed : (ls : List (List ℕ)) → AllByRecursion AreFrames ls → AllByRecursion AreFrames (ls ++ frames ∷ [])
+    pushed : (ls : List (List ℕ)) → AllByRecursion AreNumbers ls → AllByRecursion AreNumbers (ls ++ frames ∷ [])
     pushed [] p = (also, tt)
     pushed (l ∷ ls) p = (p.0, pushed ls p.1)
 
@@ -37,10 +37,10 @@ trace_push text rest after frames lists new worker counted spelled here is =
 record Behind (worker : ℕ) (before others : List (List ℕ)) (rest tail : List ℕ) : Type 0 where
   pub more : List (List ℕ)
   pub others_are : others ≡ before ++ more
-  pub fit : AllByRecursion AreFrames more
+  pub fit : AllByRecursion AreNumbers more
   pub rest_is : rest ≡ lines_from (worker + length before) more ++ tail
 
-behind : (worker : ℕ) (before others : List (List ℕ)) (rest tail : List ℕ) → AllByRecursion AreFrames before → AllByRecursion AreFrames others
+behind : (worker : ℕ) (before others : List (List ℕ)) (rest tail : List ℕ) → AllByRecursion AreNumbers before → AllByRecursion AreNumbers others
     → length before ≤ length others → worker + length others < 2 ^ 32 → lines_from worker before ++ rest ≡ lines_from worker others ++ tail
     → Behind worker before others rest tail
 behind worker [] others rest tail fit also few small e = record {
@@ -67,7 +67,7 @@ some_line worker [] tail e = (refl, sym e)
 some_line worker (l ∷ more) tail e = absurd (cc)
 
 -- where a line is wrong, no list has further workers there
-no_more : (worker : ℕ) (more : List (List ℕ)) (rest tail : List ℕ) → AllByRecursion AreFrames more → NoLine worker rest → rest ≡ lines_from worker more ++ tail
+no_more : (worker : ℕ) (more : List (List ℕ)) (rest tail : List ℕ) → AllByRecursion AreNumbers more → NoLine worker rest → rest ≡ lines_from worker more ++ tail
     → more ≡ []
 no_more worker [] rest tail fit none e = refl
 no_more worker (l ∷ more) rest tail fit none e =

@@ -3,7 +3,8 @@ use Rattle.std.proofs.Common.{◌≡◌, ◌≢◌, ℕ, zero, suc, ◌^◌, ◌
 use Rattle.std.specs.List.{flat_map}
 use Rattle.std.specs.Fmt.{decimal}
 use Rattle.trace_replay_text.specs.Fields.{Begins, IsFree, IsCutAt}
-use Rattle.trace_replay_text.specs.Trace.{AreFrames, NoLine, field, worker_line}
+use Rattle.os_io.specs.Lines.{field}
+use Rattle.trace_replay_text.specs.Trace.{AreNumbers, NoLine, worker_line}
 use Rattle.trace_replay_text.proofs.Cutting.{cut_once, tail_free, free_decimal, begins_fields, fields_once, field_once, front_and_rest, cells}
 
 free_cons : (c b : ℕ) (xs : List ℕ) → b ≢ c → IsFree c xs → IsFree c (b ∷ xs)
@@ -17,7 +18,7 @@ free_append c (x ∷ xs) ys p q = free_cons c x (xs ++ ys) (p 0 0 (omega arith))
 free_nil : (c : ℕ) → IsFree c []
 free_nil c k d inside = absurd (omega arith)
 
-free_fields : (frames : List ℕ) → AreFrames frames → IsFree 10 (flat_map field frames)
+free_fields : (frames : List ℕ) → AreNumbers frames → IsFree 10 (flat_map field frames)
 free_fields [] p = free_nil 10
 free_fields (f ∷ fs) p =
     free_cons 10 32 (decimal f ++ flat_map field fs) (λ e. omega (arith, e))
@@ -27,7 +28,7 @@ free_fields (f ∷ fs) p =
 abbrev pub before_feed : ℕ → List ℕ → List ℕ
 before_feed worker frames = codes "worker" ++ flat_map field (worker ∷ frames)
 
-free_line : (worker : ℕ) (frames : List ℕ) → worker < 2 ^ 32 → AreFrames frames → IsFree 10 (before_feed worker frames)
+free_line : (worker : ℕ) (frames : List ℕ) → worker < 2 ^ 32 → AreNumbers frames → IsFree 10 (before_feed worker frames)
 free_line worker frames small p =
     let numbers = free_fields (worker ∷ frames) (small, p) in
     let rest = flat_map field (worker ∷ frames) in
@@ -46,13 +47,13 @@ line_apart worker frames after =
     ∙ sym (append_assoc (codes "worker") numbers (10 ∷ after))
 
 -- where a text is cut at its first line feed, the line is what stands before
-pub line_at : (text : List ℕ) (place : ℕ) → IsCutAt 10 text place → (worker : ℕ) (frames after : List ℕ) → worker < 2 ^ 32 → AreFrames frames
+pub line_at : (text : List ℕ) (place : ℕ) → IsCutAt 10 text place → (worker : ℕ) (frames after : List ℕ) → worker < 2 ^ 32 → AreNumbers frames
     → text ≡ worker_line worker frames ++ after → (take place text ≡ before_feed worker frames) × (drop place text ≡ 10 ∷ after)
 line_at text place cut worker frames after small fit is =
     cut_once 10 (take place text) (before_feed worker frames) (drop place text) (10 ∷ after) cut.free (free_line worker frames small fit) cut.begins refl
     (front_and_rest place text ∙ is ∙ line_apart worker frames after)
 
-pub line_once : (worker : ℕ) (frames others x y : List ℕ) → worker < 2 ^ 32 → AreFrames frames → AreFrames others
+pub line_once : (worker : ℕ) (frames others x y : List ℕ) → worker < 2 ^ 32 → AreNumbers frames → AreNumbers others
     → worker_line worker frames ++ x ≡ worker_line worker others ++ y → (frames ≡ others) × (x ≡ y)
 line_once worker frames others x y small fit also is =
     let both = cut_once 10 (before_feed worker frames) (before_feed worker others) (10 ∷ x) (10 ∷ y) (free_line worker frames small fit) (free_line worker others small also)
@@ -69,13 +70,13 @@ no_feed text place cut ends worker small frames after fit is =
 
 -- nor has one whose line doesn't name the worker,
 pub no_worker : (text : List ℕ) (place : ℕ) → IsCutAt 10 text place → (worker : ℕ) → worker < 2 ^ 32
-    → ((frames : List ℕ) → AreFrames frames → take place text ≡ before_feed worker frames → ⊥) → NoLine worker text
+    → ((frames : List ℕ) → AreNumbers frames → take place text ≡ before_feed worker frames → ⊥) → NoLine worker text
 no_worker text place cut worker small none frames after fit is = none frames fit (line_at text place cut worker frames after small fit is).0
 
 -- or has something else behind it than numbers
 pub no_numbers : (text : List ℕ) (place : ℕ) → IsCutAt 10 text place → (worker : ℕ) (numbers : List ℕ) → worker < 2 ^ 32
     → take place text ≡ codes "worker" ++ field worker ++ numbers → Begins 32 numbers
-    → ((frames : List ℕ) → AreFrames frames → numbers ≡ flat_map field frames → ⊥) → NoLine worker text
+    → ((frames : List ℕ) → AreNumbers frames → numbers ≡ flat_map field frames → ⊥) → NoLine worker text
 no_numbers text place cut worker numbers small here begins none frames after fit is =
     let line = (line_at text place cut worker frames after small fit is).0 in
     let both = field_once worker worker numbers (flat_map field frames) small small begins (begins_fields frames)

@@ -25,6 +25,6 @@ IsWrongAt (Line told) line Nothing = (told ≡ line) × Nothing
 IsWrongAt Memory line Nothing = Unit {0}
 
 -- and for the whole text
-abbrev pub IsRefused : List ℕ → TraceError → Type 0
-IsRefused text (Line line) = IsFirstWrongLine text line
-IsRefused text Memory = Unit {0}
+abbrev pub IsTraceRefused : List ℕ → TraceError → Type 0
+IsTraceRefused text (Line line) = IsFirstWrongLine text line
+IsTraceRefused text Memory = Unit {0}

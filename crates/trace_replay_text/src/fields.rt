@@ -2,11 +2,11 @@
 
 ghost use Rattle.std.specs.Prelude.{◌≡◌, ◌^◌, ◌<◌, ◌++◌, IfSome, IfNone, IfOk, List, ℕ};
 ghost use Rattle.std.specs.List.{flat_map};
-ghost use Rattle.std.specs.Fmt.{decimal};
 ghost use Rattle.trace_replay_text.specs.Fields.{Begins, IsCutAt};
-ghost use Rattle.trace_replay_text.specs.Trace.{AreFrames, field};
+ghost use Rattle.os_io.specs.Lines.{field};
+ghost use Rattle.trace_replay_text.specs.Trace.{AreNumbers};
 
-use os_io::{List, Memory};
+use os_io::{List, Memory, parse_decimal};
 use std::alloc::Global;
 
 /// Where a byte stands first, or the end where it stands nowhere.
@@ -21,31 +21,6 @@ pub(crate) fn place_of(byte: u8, text: &[u8]) -> usize
     text.len()
 }
 
-/// The number that is written so, without leading zeros.
-fn number_of(digits: &[u8]) -> Option<u32>
-    ensures some { IfSome result (λ number. (number < 2 ^ 32) × (digits.now ≡ decimal number)) }
-    ensures none { IfNone result ((number : ℕ) → number < 2 ^ 32 → digits.now ≡ decimal number → ⊥) }
-{
-    let [first, others @ ..] = digits else {
-        return None;
-    };
-    // what is read below may have a plus in front
-    if *first == b'+' {
-        return None;
-    }
-    // and zeros
-    if *first == b'0' && !others.is_empty() {
-        return None;
-    }
-    let Ok(text) = str::from_utf8(digits) else {
-        return None;
-    };
-    let Ok(number) = u32::from_str_radix(text, 10) else {
-        return None;
-    };
-    Some(number)
-}
-
 /// The number at the front, behind a space, and what stands behind it: nothing, or a further space.
 pub(crate) fn first_field(text: &[u8]) -> Option<(u32, &[u8])>
     ensures some { IfSome result (λ read. (read.0 < 2 ^ 32) × (text.now ≡ field read.0 ++ read.1.now)) }
@@ -56,7 +31,7 @@ pub(crate) fn first_field(text: &[u8]) -> Option<(u32, &[u8])>
         return None;
     };
     let end = place_of(b' ', digits);
-    let Some(number) = number_of(&digits[..end]) else {
+    let Some(number) = parse_decimal(&digits[..end]) else {
         return None;
     };
     Some((number, &digits[end..]))
@@ -64,8 +39,8 @@ pub(crate) fn first_field(text: &[u8]) -> Option<(u32, &[u8])>
 
 /// The numbers of a text that has nothing else, each behind a space.
 pub(crate) fn fields(alloc: Global, text: &[u8]) -> Result<Option<List<u32>>, Memory>
-    ensures some { IfOk result (λ read. IfSome read (λ frames. AreFrames frames × (text.now ≡ flat_map field frames))) }
-    ensures none { IfOk result (λ read. IfNone read ((frames : List ℕ) → AreFrames frames → text.now ≡ flat_map field frames → ⊥)) }
+    ensures some { IfOk result (λ read. IfSome read (λ frames. AreNumbers frames × (text.now ≡ flat_map field frames))) }
+    ensures none { IfOk result (λ read. IfNone read ((frames : List ℕ) → AreNumbers frames → text.now ≡ flat_map field frames → ⊥)) }
 {
     let mut frames = List::new(alloc);
     let mut rest = text;

@@ -16,5 +16,5 @@ mod reading;
 mod trace_error;
 
 pub use printing::print_trace;
-pub use reading::{MOST_WORKERS, read_trace};
+pub use reading::read_trace;
 pub use trace_error::TraceError;

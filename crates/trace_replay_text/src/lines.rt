@@ -2,8 +2,10 @@
 
 ghost use Rattle.std.specs.Prelude.{◌≡◌, ◌++◌, ◌∷◌, ◌<◌, suc, IfOk, IfErr, IfSome, IfNone, List, ℕ, codes};
 ghost use Rattle.std.specs.List.{flat_map};
+ghost use Rattle.flow_core_laws.specs.Limits.{workers_limit};
 ghost use Rattle.trace_replay_text.specs.Fields.{Begins, IsWrongAt};
-ghost use Rattle.trace_replay_text.specs.Trace.{AreFrames, NoLine, field, most_workers, worker_line};
+ghost use Rattle.os_io.specs.Lines.{field};
+ghost use Rattle.trace_replay_text.specs.Trace.{AreNumbers, NoLine, worker_line};
 
 use crate::fields::{fields, first_field, place_of};
 use crate::trace_error::TraceError;
@@ -14,7 +16,7 @@ use std::alloc::Global;
 fn behind_worker(line: &[u8], worker: u32) -> Option<&[u8]>
     ensures some { IfSome result (λ numbers. line.now ≡ codes "worker" ++ field worker ++ numbers.now) }
     ensures begins { IfSome result (λ numbers. Begins 32 numbers.now) }
-    ensures none { IfNone result ((frames : List ℕ) → AreFrames frames → line.now ≡ codes "worker" ++ flat_map field (worker ∷ frames) → ⊥) }
+    ensures none { IfNone result ((frames : List ℕ) → AreNumbers frames → line.now ≡ codes "worker" ++ flat_map field (worker ∷ frames) → ⊥) }
 {
     let [b'w', b'o', b'r', b'k', b'e', b'r', fields @ ..] = line else {
         return None;
@@ -34,8 +36,8 @@ pub(crate) fn read_line(
     text: &[u8],
     worker: u32,
 ) -> Result<(List<u32>, &[u8]), TraceError>
-    requires { worker < most_workers }
-    ensures ok { IfOk result (λ read. AreFrames read.0 × (text.now ≡ worker_line worker read.0 ++ read.1.now)) }
+    requires { worker < workers_limit }
+    ensures ok { IfOk result (λ read. AreNumbers read.0 × (text.now ≡ worker_line worker read.0 ++ read.1.now)) }
     ensures err { IfErr result (λ error. IsWrongAt error (suc worker) (NoLine worker text.now)) }
 {
     let end = place_of(b'\n', text);

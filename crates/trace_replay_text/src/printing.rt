@@ -1,6 +1,7 @@
 ghost use Rattle.std.specs.Prelude.{◌≡◌, ◌++◌, IfOk};
 ghost use Rattle.std.specs.Fmt.{decimal};
-ghost use Rattle.trace_replay_text.specs.Trace.{field, trace, worker_line};
+ghost use Rattle.os_io.specs.Lines.{field};
+ghost use Rattle.trace_replay_text.specs.Trace.{trace, worker_line};
 
 use os_io::{List, Memory};
 use std::alloc::Global;

@@ -8,7 +8,7 @@ use trace_replay_text::{TraceError, print_trace, read_trace};
 /// What a text is read as.
 #[derive(Clone, Copy, Debug, PartialEq, Eq)]
 enum Answer {
-    /// A trace of so many workers, of which the same text is written.
+    /// A trace of this many workers, of which the same text is written.
     Workers(usize),
     /// One of which another text is written.
     Other,
@@ -108,7 +108,7 @@ fn idle(rt: &impl Abort, alloc: Global, workers: u32) -> String {
     text
 }
 
-/// Asks that the lines of so many workers are read so.
+/// Asks that the lines of `workers` workers are read as `answer` says.
 fn is_read(rt: &impl Abort, alloc: Global, workers: u32, answer: Answer) {
     let text = idle(rt, alloc, workers);
     assert!(rt; answer_of(alloc, text.as_bytes()) == answer);

@@ -3,7 +3,7 @@ use Rattle.std.specs.Prelude.{◌≡◌, ℕ, ◌<◌, ◌≤◌, true, false, L
 use Rattle.std.specs.Fmt.{decimal}
 use Rattle.std.specs.List.{flat_map}
 use Rattle.std.specs.Option.{option_map_or}
-use Rattle.collector.specs.Line.{line}
+use Rattle.os_io.specs.Lines.{field, ended_line}
 use Rattle.collector.specs.Missing.{missing}
 use Rattle.collector.specs.declared.missing.Missing.{Missing}
 use Rattle.flow_core_laws.specs.Outcome.{has_end_at}
@@ -23,10 +23,6 @@ IsFinding activations input_len ends a (Starved members last) =
     (a < length activations) × (has_end_at ends a ≡ false) × IsWalk activations input_len ends a members
     × (last ≡ missing activations input_len ends (last_of members))
 
--- a member of a walk, behind a space
-abbrev pub member_text : ℕ → List ℕ
-member_text a = codes " " ++ decimal a
-
 -- Where a walk ends: at an element that nobody should write, or at one that a member should write.
 abbrev pub stop_text : Missing → List ℕ
 stop_text m = option_map_or (λ b. codes " back " ++ decimal b) m.producer
@@ -34,10 +30,10 @@ stop_text m = option_map_or (λ b. codes " back " ++ decimal b) m.producer
 
 -- The line of a walk: its members, and what the last one misses.
 abbrev pub chain_line : List ℕ → Option Missing → List ℕ
-chain_line members last = line (codes "chain" ++ flat_map member_text members ++ option_map_or stop_text last [])
+chain_line members last = ended_line (codes "chain" ++ flat_map field members ++ option_map_or stop_text last [])
 
 -- the line that tells it
 abbrev pub finding_line : ℕ → Finding → List ℕ
-finding_line a Absent = line (codes "no activation " ++ decimal a)
-finding_line a Ended = line (codes "not starved " ++ decimal a)
+finding_line a Absent = ended_line (codes "no activation " ++ decimal a)
+finding_line a Ended = ended_line (codes "not starved " ++ decimal a)
 finding_line a (Starved members last) = chain_line members last

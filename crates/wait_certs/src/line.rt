@@ -1,7 +1,8 @@
 ghost use Rattle.std.specs.Prelude.{◌≡◌, ◌++◌, [], IfOk, string_bytes};
 ghost use Rattle.std.specs.List.{flat_map};
 ghost use Rattle.std.specs.Option.{option_map_or};
-ghost use Rattle.wait_certs.specs.Finding.{chain_line, finding_line, member_text, stop_text};
+ghost use Rattle.os_io.specs.Lines.{field};
+ghost use Rattle.wait_certs.specs.Finding.{chain_line, finding_line, stop_text};
 
 use crate::finding::Finding;
 use collector::Missing;
@@ -33,7 +34,7 @@ fn chain_line(alloc: Global, members: &[u32], last: Option<Missing>) -> Result<S
 
 /// Adds the members of a walk, each behind a space.
 fn add_members(text: &mut String, members: &[u32]) -> Result<(), Memory>
-    ensures { IfOk result (λ _. string_bytes text.new ≡ string_bytes text.old ++ flat_map member_text members.now) }
+    ensures { IfOk result (λ _. string_bytes text.new ≡ string_bytes text.old ++ flat_map field members.now) }
 {
     for member in members {
         add_member(text, *member)?;
@@ -43,7 +44,7 @@ fn add_members(text: &mut String, members: &[u32]) -> Result<(), Memory>
 
 /// Adds a member of a walk.
 fn add_member(text: &mut String, member: u32) -> Result<(), Memory>
-    ensures { IfOk result (λ _. string_bytes text.new ≡ string_bytes text.old ++ member_text member) }
+    ensures { IfOk result (λ _. string_bytes text.new ≡ string_bytes text.old ++ field member) }
 {
     write!(text, " {member}")?;
     Ok(())

@@ -39,7 +39,7 @@ fn all_ended_but(alloc: Global, layout: &Layout, members: &[u32]) -> Result<Ends
     })
 }
 
-/// So many ends, all of them done.
+/// A list of `count` ends, all of them done.
 fn all_done(alloc: Global, count: usize) -> Result<List<Option<TaskEnd>>, Memory>
     ensures { IfOk result (λ ends. ends ≡ replicate count (Some TaskEnd.Done)) }
 {

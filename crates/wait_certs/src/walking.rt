@@ -6,7 +6,7 @@ ghost use Rattle.stream_match_layouts.specs.Spans.{frame_count};
 ghost use Rattle.wait_certs_laws.specs.Walk.{IsWalk, waited_for};
 ghost use Rattle.wait_certs.specs.Searching.{unmarked};
 
-use collector::first_missing;
+use collector::{first_missing, has_end};
 use flow_core_laws::Ends;
 use os_io::{List, Memory};
 use std::alloc::Global;
@@ -34,16 +34,6 @@ pub fn walk(
     Ok(Some(members))
 }
 
-/// Whether an activation has an end.
-fn has_end(ends: &Ends, frame: u32) -> bool
-    ensures { result ≡ has_end_at ends.now.ends frame }
-{
-    match ends.ends.as_slice().get(frame as usize) {
-        Some(end) => end.is_some(),
-        None => false,
-    }
-}
-
 /// The walk from an activation on, by the ends so far.
 fn walk_from(alloc: Global, layout: &Layout, ends: &Ends, frame: u32) -> Result<List<u32>, Memory>
     requires layout { IsLayout layout.now }
@@ -64,7 +54,7 @@ fn walk_from(alloc: Global, layout: &Layout, ends: &Ends, frame: u32) -> Result<
     Ok(members)
 }
 
-/// So many marks, none of which is set.
+/// A list of `count` marks, none of which is set.
 fn no_marks(alloc: Global, count: usize) -> Result<List<bool>, Memory>
     ensures { IfOk result (λ marks. marks ≡ replicate count false) }
 {

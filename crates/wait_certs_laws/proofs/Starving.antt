@@ -57,7 +57,7 @@ module _ (activations : List Activation) (input : List ℕ) where
       by false c (Some w) e (inl h) = absurd (cc)
       by false c (Some w) e (inr (b, h, n)) =
           let same : w.activation ≡ b = cc in
-          ap (λ (q : Option Outcome). option_and_then (λ (o : Outcome). elements.written w.activation o (w.offset + (place.position - w.first))) q) (ap (outcome_at s) same ∙ n)
+          ap (λ (q : Option Outcome). option_and_then (λ (o : Outcome). elements.element_written w.activation o (w.offset + (place.position - w.first))) q) (ap (outcome_at s) same ∙ n)
 
   -- an activation that awaits one has no inputs
   no_inputs : (s : State) (a : ℕ) (g : Giver) → Awaits activations (length input) a g → GivesNothing s g → inputs_in stream_element (stream_reads activations input) s a ≡ None

@@ -145,7 +145,7 @@ const SHORT: Case<'static> = Case {
     ends: &[None, None],
 };
 
-/// The same, with enough input.
+/// As `SHORT`, with enough input, so that both are done.
 const LONG: Case<'static> = Case {
     streams: 3,
     input_len: 4,

@@ -1,6 +1,6 @@
 -- What is found of a declarator, step by step.
 use Rattle.std.proofs.Common.{◌≡◌, ◌&&◌, not, List, ◌++◌, Option, ap, sym, ◌∙◌, Bool}
-use Rattle.os_ast.specs.Meanings.{meaning}
+use Rattle.os_ast.specs.Meanings.{what_declared}
 use Rattle.os_ast.specs.Names.{Scope, declare, is_declared}
 use Rattle.os_ast.specs.Notes.Declarators.{form, form_entity, taken, after_declarator, sized_notes, declarator_notes}
 use Rattle.os_ast.specs.Notes.Expressions.{value_notes}
@@ -24,7 +24,7 @@ pub declarator-steps : (f named size : Found) (s after declared : Scope) (d : tr
     broken
     ≡ rule_list (least_rule (when (is_declared s d.name.id) rule.DeclaredTwice))
     ++ (rule_list c ++ rule_list (least_rule (when (d.stream && not (is_outermost s.owner s.depth)) rule.Misplaced))) →
-    w ≡ meaning e → u ≡ s.unsigned → named ≡ means (with_violations f d.name.mark broken) d.name.mark w u →
+    w ≡ what_declared e → u ≡ s.unsigned → named ≡ means (with_violations f d.name.mark broken) d.name.mark w u →
     size ≡ noted named (sized_notes s d.stream d.size) → after ≡ taken s fm → declared ≡ declare after d.name.id e →
     noted size (value_notes declared d.first) ≡ noted f (declarator_notes s d)
 declarator-steps f named size s after declared d fm e c broken w u hfm he hc hbroken hw hu hnamed hsize hafter hdeclared =

@@ -6,7 +6,7 @@ use Rattle.std.proofs.lemmas.List.Elements.{All-cons, All-nil}
 use Rattle.os_ast.specs.Codes.{code}
 use Rattle.os_ast.specs.Notes.Kinds.{Note, mark_of}
 use Rattle.os_ast.specs.Rules.{broken}
-use Rattle.os_ast.specs.Violations.{violated, violations_at, violations_of, IsBefore, earlier, same_place}
+use Rattle.os_ast.specs.Violations.{violated, violations_at, violations_of, IsNotAbove, earlier, same_place}
 use Rattle.os_ast.specs.declared.expr.Mark.{Mark}
 use Rattle.os_ast.specs.declared.violation.Violation.{Violation}
 use Rattle.window_check_names.specs.BrokenRules.{least_rule, lesser_rule}
@@ -65,41 +65,41 @@ pub least_of-some : (u : Violation) (vs : List Violation) → least_of (Some u) 
 least_of-some u [] = refl
 least_of-some u (v ∷ vs) = least_of-some (lesser (Some u) v) vs
 
-before-self : (v : Violation) → IsBefore v v
+before-self : (v : Violation) → IsNotAbove v v
 before-self v = same_place refl (omega arith)
 
-before-then : (u v w : Violation) → IsBefore u v → IsBefore v w → IsBefore u w
+before-then : (u v w : Violation) → IsNotAbove u v → IsNotAbove v w → IsNotAbove u w
 before-then u v w (earlier a) (earlier b) = earlier (omega (arith, a, b))
 before-then u v w (earlier a) (same_place b c) = earlier (omega (arith, a, b))
 before-then u v w (same_place a c) (earlier b) = earlier (omega (arith, a, b))
 before-then u v w (same_place a c) (same_place b d) = same_place (a ∙ b) (omega (arith, c, d))
 
-is_before : (v u : Violation) (b : Bool) → ltb v.place u.place ≡ b → before v u ≡ true → IsBefore v u
+is_before : (v u : Violation) (b : Bool) → ltb v.place u.place ≡ b → before v u ≡ true → IsNotAbove v u
 is_before v u true p h = earlier (ltb-true v.place u.place p)
 is_before v u false p h = same_place (grind (arith, nat_tests)) (grind (arith, nat_tests))
 
-isn't_before : (v u : Violation) (b : Bool) → ltb u.place v.place ≡ b → before v u ≡ false → IsBefore u v
+isn't_before : (v u : Violation) (b : Bool) → ltb u.place v.place ≡ b → before v u ≡ false → IsNotAbove u v
 isn't_before v u true p h = earlier (ltb-true u.place v.place p)
 isn't_before v u false p h = same_place (grind (arith, nat_tests)) (grind (arith, nat_tests))
 
-lesser-first : (u v : Violation) (b : Bool) → before v u ≡ b → IsBefore (lesser (Some u) v) u
+lesser-first : (u v : Violation) (b : Bool) → before v u ≡ b → IsNotAbove (lesser (Some u) v) u
 lesser-first u v true p = rw p (is_before v u (ltb v.place u.place) refl p)
 lesser-first u v false p = rw p (before-self u)
 
-lesser-second : (u v : Violation) (b : Bool) → before v u ≡ b → IsBefore (lesser (Some u) v) v
+lesser-second : (u v : Violation) (b : Bool) → before v u ≡ b → IsNotAbove (lesser (Some u) v) v
 lesser-second u v true p = rw p (before-self v)
 lesser-second u v false p = rw p (isn't_before v u (ltb u.place v.place) refl p)
 
-pub least-first : (u : Violation) (vs : List Violation) → IsBefore (least_among u vs) u
+pub least-first : (u : Violation) (vs : List Violation) → IsNotAbove (least_among u vs) u
 least-first u [] = before-self u
 least-first u (v ∷ vs) =
     before-then (least_among (lesser (Some u) v) vs) (lesser (Some u) v) u (least-first (lesser (Some u) v) vs) (lesser-first u v (before v u) refl)
 
-pub least-others : (u : Violation) (vs : List Violation) → All (IsBefore (least_among u vs)) vs
-least-others u [] = All-nil (IsBefore u)
+pub least-others : (u : Violation) (vs : List Violation) → All (IsNotAbove (least_among u vs)) vs
+least-others u [] = All-nil (IsNotAbove u)
 least-others u (v ∷ vs) =
     let w = lesser (Some u) v in
-    All-cons (IsBefore (least_among w vs)) v vs
+    All-cons (IsNotAbove (least_among w vs)) v vs
     (before-then (least_among w vs) w v (least-first w vs) (lesser-second u v (before v u) refl))
     (least-others w vs)
 

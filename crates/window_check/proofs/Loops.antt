@@ -3,7 +3,7 @@ use Rattle.std.proofs.Common.{◌≡◌, ℕ, ◌+◌, ◌-◌, ◌<◌, List, �
 use Rattle.os_ast.specs.declared.program.Param.{Param}
 use Rattle.os_ast.specs.Names.{Scope}
 use Rattle.os_ast.specs.Notes.Declarators.{after_declarator, after_declarators, declarator_notes, declarators_notes}
-use Rattle.os_ast.specs.Notes.Kinds.{Note, Given}
+use Rattle.os_ast.specs.Notes.Kinds.{Note, Parameter}
 use Rattle.os_ast.specs.Notes.Programs.{after_param, after_params, params_notes}
 use Rattle.os_ast.specs.Trees.{DeclaratorTree}
 use Rattle.os_ast.specs.Views.{declarator_tree}
@@ -63,9 +63,9 @@ params_scopes-next s after end ns i n h sofar step =
     ap (λ (x : Scope). after_params x (drop (i + 1) ns)) step ∙ ap (after_params s) (sym (name-next ns i n h)) ∙ sofar
 
 pub params_found-next : (s after : Scope) (f found end : Found) (ns : List Param) (i : ℕ) (n : Param) → i < length ns → noted f (params_notes s (drop i ns)) ≡ end →
-    after ≡ after_param s (get_or ns i n) → found ≡ note f (Given s (get_or ns i n)) → noted found (params_notes after (drop (i + 1) ns)) ≡ end
+    after ≡ after_param s (get_or ns i n) → found ≡ note f (Parameter s (get_or ns i n)) → noted found (params_notes after (drop (i + 1) ns)) ≡ end
 params_found-next s after f found end ns i n h sofar step noting =
     ap (λ (g : Found). noted g (params_notes after (drop (i + 1) ns))) noting
-    ∙ ap (λ (x : Scope). noted (note f (Given s (get_or ns i n))) (params_notes x (drop (i + 1) ns))) step
+    ∙ ap (λ (x : Scope). noted (note f (Parameter s (get_or ns i n))) (params_notes x (drop (i + 1) ns))) step
     ∙ ap (λ (xs : List Param). noted f (params_notes s xs)) (sym (name-next ns i n h))
     ∙ sofar

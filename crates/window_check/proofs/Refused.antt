@@ -9,7 +9,7 @@ use Rattle.os_ast.specs.Notes.Programs.{program_notes, file}
 use Rattle.os_ast.specs.Rules.{broken}
 use Rattle.os_ast.specs.Spelling.{Symbol, bare, marked, kind_of, symbols, spell}
 use Rattle.os_ast.specs.Trees as tree
-use Rattle.os_ast.specs.Violations.{violated, violations_at, violations_of, resolutions_of, resolutions, captures_of, captures, captured_by_tasks, has_main, no_main, violations, names, IsBefore, earlier, same_place, IsRefusal}
+use Rattle.os_ast.specs.Violations.{violated, violations_at, violations_of, resolutions_of, resolutions, captures_of, captures, captured_by_tasks, has_main, no_main, violations, names, IsNotAbove, earlier, same_place, IsRefusal}
 use Rattle.os_ast.specs.declared.expr.Mark.{Mark}
 use Rattle.os_ast.specs.declared.violation.Violation.{Violation}
 use Rattle.window_check_names.specs.Findings.{nothing_found, noted, judged, judged_in, pushed}
@@ -52,7 +52,7 @@ first-among u us (inr c) = contains-tail u (least_among u us) us c
 
 record IsLeast (vs : List Violation) (v : Violation) : Type 0 where
   among : Contains vs v
-  least : All (IsBefore v) vs
+  least : All (IsNotAbove v) vs
 
 least-some : (vs : List Violation) (v : Violation) → least_of None vs ≡ Some v → IsLeast vs v
 least-some [] v h = absurd (cc)
@@ -60,13 +60,13 @@ least-some (u ∷ us) v h =
     let is : least_among u us ≡ v = ap (λ o. unwrap_or o v) (sym (least_of-some u us) ∙ h) in
     subst (IsLeast (u ∷ us)) is (record {
       among = first-among u us (least-among u us);
-      least = All-cons (IsBefore (least_among u us)) u us (least-first u us) (least-others u us);
+      least = All-cons (IsNotAbove (least_among u us)) u us (least-first u us) (least-others u us);
     })
 
 -- the least comes before the violation that stands behind all tokens
-before-end : (p : tree.ProgramTree) (v : Violation) (b : Bool) → has_main p ≡ b → v.place < length (spell p) → All (IsBefore v) (no_main p)
-before-end p v true e h = rw e (All-nil (IsBefore v))
-before-end p v false e h = rw e (All-cons (IsBefore v) (violated (length (spell p)) rule.NoMain 1) [] (earlier h) (All-nil (IsBefore v)))
+before-end : (p : tree.ProgramTree) (v : Violation) (b : Bool) → has_main p ≡ b → v.place < length (spell p) → All (IsNotAbove v) (no_main p)
+before-end p v true e h = rw e (All-nil (IsNotAbove v))
+before-end p v false e h = rw e (All-cons (IsNotAbove v) (violated (length (spell p)) rule.NoMain 1) [] (earlier h) (All-nil (IsNotAbove v)))
 
 among-below : (n : ℕ) (vs : List Violation) (v : Violation) → All (λ v. v.place < n) vs → Contains vs v → v.place < n
 among-below n vs v a (k, h, e) = subst (λ (v : Violation). v.place < n) e (a k v h)
@@ -88,7 +88,7 @@ refused p v h is =
     let below = among-below (length (spell p)) (violations_of (program_notes p)) v (all-below p h) found.among in
     record {
       among = Contains-append_left (violations_of (program_notes p)) (no_main p) v found.among;
-      least = All-append (IsBefore v) (violations_of (program_notes p)) (no_main p) found.least (before-end p v (has_main p) refl below);
+      least = All-append (IsNotAbove v) (violations_of (program_notes p)) (no_main p) found.least (before-end p v (has_main p) refl below);
     }
 
 no_violations : (p : tree.ProgramTree) → (all_judged p).least ≡ None → violations_of (program_notes p) ≡ []
@@ -101,7 +101,7 @@ refused-end p is e =
     let all : violations p ≡ v ∷ [] = rw (no_violations p is, e) refl in
     record {
       among = rw all (0, omega arith, refl);
-      least = rw all (All-cons (IsBefore v) v [] (same_place refl (omega arith)) (All-nil (IsBefore v)));
+      least = rw all (All-cons (IsNotAbove v) v [] (same_place refl (omega arith)) (All-nil (IsNotAbove v)));
     }
 
 -- nothing was found, and there is a `main`

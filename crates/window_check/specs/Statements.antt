@@ -32,7 +32,7 @@ listed_in owner.OfMain s others items body = slots_found (noted (Listing others)
 listed_in owner.OfFunction s others items body = []
 listed_in owner.OfTask s others items body = []
 
--- the same, where a walk that collects violations wants them of every task
+-- the scalars that a walk lists so; one that collects violations wants them of every task
 abbrev pub listed_for : Found → Owner → Scope → List ℕ → List ItemName → tree.StmtTree → List ℕ
 listed_for (Listing slots) o s others items body = listed_in o s others items body
 listed_for (Judging j) o s others items body = listed_in o s others items body

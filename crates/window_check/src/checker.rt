@@ -37,7 +37,7 @@ fn judge(alloc: Global, scopes: &mut Scopes, program: &Program) -> Result<Judged
 /// the rule's code. The walk takes time linear in the program but for the look-up of names, and stack for the depth
 /// of the program. The program is consumed in every case.
 pub fn check(alloc: Global, program: Program) -> Result<Checked, CheckError>
-    // The program is spelled by at most so many tokens, and each of its marks has its place among them.
+    // The program is spelled by at most `text_limit` tokens, and each of its marks has its place among them.
     requires leveled { IsLeveled (program_tree program) }
     requires few { length (spell (program_tree program)) ≤ text_limit }
     requires placed { HasPlaces (program_tree program) }

@@ -91,7 +91,7 @@ fn declarator_rules(scopes: &Scopes, declarator: &Declarator, size: Option<Rule>
     BrokenRules::three(twice, size, misplaced)
 }
 
-/// One declarator.
+/// Judges a declarator and declares its name, which its first value can see.
 fn declarator(scopes: &mut Scopes, found: &mut Found, declarator: &Declarator) -> Result<(), Memory>
     requires { HasRoom scopes.old (declarator_weight (declarator_tree declarator.now)) }
     ensures scopes { OnOk result (scopes.new ≡ after_declarator scopes.old (declarator_tree declarator.now)) }

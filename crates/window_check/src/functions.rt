@@ -6,7 +6,7 @@ ghost use Rattle.os_ast.specs.Names.{is_declared};
 ghost use Rattle.os_ast.specs.Rules.{when};
 ghost use Rattle.window_check_names.specs.BrokenRules.{least_rule};
 ghost use Rattle.os_ast.specs.declared.rule.Rule.TheVariants.{DeclaredTwice};
-ghost use Rattle.os_ast.specs.Notes.Kinds.{Given};
+ghost use Rattle.os_ast.specs.Notes.Kinds.{Parameter};
 ghost use Rattle.os_ast.specs.Notes.Programs.{owner_of, after_param, after_params, params_notes};
 ghost use Rattle.os_ast.specs.Notes.Programs.{after_item, item_notes, after_items, items_notes, in_function};
 ghost use Rattle.os_ast.specs.Trees as tree;
@@ -44,12 +44,12 @@ fn twice(scopes: &Scopes, name: Name) -> Option<Rule>
     when(scopes.is_declared(name.id), Rule::DeclaredTwice)
 }
 
-/// A parameter.
+/// Judges a parameter, and declares it.
 #[tactic(auto, using(window_check_names::proofs::AddedViolations::added_notes))]
 fn param(scopes: &mut Scopes, found: &mut Found, param: Param) -> Result<(), Memory>
     requires { HasRoom scopes.old 1 }
     ensures scopes { OnOk result (scopes.new ≡ after_param scopes.old param) }
-    ensures found { OnOk result (found.new ≡ note found.old (Given scopes.old param)) }
+    ensures found { OnOk result (found.new ≡ note found.old (Parameter scopes.old param)) }
 {
     let Param { ty, name } = param;
     let entity = scopes.scalar();
@@ -76,7 +76,7 @@ fn params(scopes: &mut Scopes, found: &mut Found, list: &[Param]) -> Result<(), 
     Ok(())
 }
 
-/// A constant.
+/// Judges a constant, and declares it.
 #[tactic(auto, using(window_check_names::proofs::AddedViolations::added_notes))]
 fn constant(scopes: &mut Scopes, found: &mut Found, constant: &Constant) -> Result<(), Memory>
     ensures scopes { OnOk result (scopes.new ≡ after_item scopes.old (tree.Constant constant.now)) }
@@ -101,7 +101,7 @@ fn begin_function(alloc: Global, scopes: &mut Scopes, id: u32) -> Result<Enclosi
     Ok(around)
 }
 
-/// A function.
+/// Judges a function, and declares it behind its body.
 fn function(
     alloc: Global,
     scopes: &mut Scopes,

@@ -100,7 +100,7 @@ pub(crate) fn stmts(
     Ok(())
 }
 
-/// A block.
+/// Judges a block in a scope of its own.
 #[cycle(stmts)]
 fn block(
     alloc: Global,
@@ -154,7 +154,7 @@ fn repeated(
     Ok(())
 }
 
-/// `for`.
+/// Judges a `for`: its head in a scope of its own, and in the same what it repeats.
 #[cycle(stmts)]
 fn for_loop(
     alloc: Global,
@@ -179,7 +179,7 @@ fn for_loop(
     Ok(())
 }
 
-/// A tick.
+/// Judges a tick: where it stands, its stream and its amount.
 #[tactic(auto, using(window_check_names::proofs::AddedViolations::added_notes))]
 fn tick(scopes: &Scopes, found: &mut Found, site: &TickSite) -> Result<(), Memory>
     ensures { OnOk result (found.new ≡ noted found.old (stmt_notes scopes.now
@@ -190,7 +190,7 @@ fn tick(scopes: &Scopes, found: &mut Found, site: &TickSite) -> Result<(), Memor
     expr(scopes, found, &site.amount)
 }
 
-/// A task.
+/// Judges a task: its clauses, then what its body captures, then the body itself.
 #[cycle(stmts)]
 fn task(
     alloc: Global,

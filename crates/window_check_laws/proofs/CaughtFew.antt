@@ -4,7 +4,7 @@ use Rattle.std.proofs.lemmas.Bool.{false≢true}
 use Rattle.os_ast.specs.Captured.{captured, slots_of}
 use Rattle.os_ast.specs.Names.{Scope, entity_of, lookup}
 use Rattle.os_ast.specs.Notes.Clauses.{clauses_notes, in_task_body, part_notes, parts_notes}
-use Rattle.os_ast.specs.Notes.Kinds.{Declared, Given, Global, Left, Listed, Note, Pragma, Returned, Sized, Task, Used}
+use Rattle.os_ast.specs.Notes.Kinds.{Declared, Parameter, Global, Left, Listed, Note, Pragma, Returned, Sized, Task, Used}
 use Rattle.os_ast.specs.Notes.Statements.{stmt_notes}
 use Rattle.os_ast.specs.ClauseParts.{Item, ClausePart, Private, count_items, is_in, part_name, private_ids}
 use Rattle.os_ast.specs.Trees as tree
@@ -99,7 +99,7 @@ used_few (Used s n u ∷ ns) =
       length-append (control_slots (entity_of (lookup s.entries n.id))) (used_slots ns),
     )
 used_few (Declared s d ∷ ns) = omega (arith, used_few ns)
-used_few (Given s n ∷ ns) = omega (arith, used_few ns)
+used_few (Parameter s n ∷ ns) = omega (arith, used_few ns)
 used_few (Sized s n ∷ ns) = omega (arith, used_few ns)
 used_few (Global s n ∷ ns) = omega (arith, used_few ns)
 used_few (Left s m ∷ ns) = omega (arith, used_few ns)

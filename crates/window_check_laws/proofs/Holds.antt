@@ -31,7 +31,7 @@ use Rattle.window_check_laws.proofs.Summed.{stays_in, stacked-scalar, stacked-de
 use Rattle.window_check_laws.specs.Known.{global, IsKnown, IsSoundScope}
 use Rattle.window_check_laws.specs.Sums.{extent_in}
 
--- what is known where so many functions and streams stand before
+-- what is known where `functions` functions and `streams` streams stand before
 abbrev pub KnownSo : tree.ProgramTree → (functions streams id : ℕ) → Entity → Type 0
 KnownSo p functions streams id (entity.Constant v) = global p id ≡ Some (entity.Constant v)
 KnownSo p functions streams id (entity.Function number params) = (global p id ≡ Some (entity.Function number params)) × (number < functions)

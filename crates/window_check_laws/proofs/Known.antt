@@ -10,7 +10,7 @@ use Rattle.os_ast.specs.Names.{Scope, lookup, entity_of, declare, enter, in_loop
 use Rattle.os_ast.specs.Notes.Clauses.{in_task, in_task_body, captured_in, window_notes, part_notes, parts_notes, clauses_notes}
 use Rattle.os_ast.specs.Notes.Declarators.{limited, constant_of, size_value, size_told, size_of, form, form_with, after_declarator, after_declarators, is_window, declarator_notes, declarators_notes, size_notes, sized_notes, after_start, start_notes}
 use Rattle.os_ast.specs.Notes.Expressions.{expr_notes, place_notes, args_notes, links_notes, value_notes, index_notes, change_notes, step_notes}
-use Rattle.os_ast.specs.Notes.Kinds.{Note, Used, Sized, Declared, Given, Global, Left, Returned, Pragma, Task, Listed}
+use Rattle.os_ast.specs.Notes.Kinds.{Note, Used, Sized, Declared, Parameter, Global, Left, Returned, Pragma, Task, Listed}
 use Rattle.os_ast.specs.Notes.Programs.{in_body, in_function, after_param, after_item, after_items, params_notes, item_notes, items_notes, owner_of, param_list, file, program_notes}
 use Rattle.os_ast.specs.Notes.Statements.{after_stmt, after_stmts, stmt_notes, stmts_notes}
 use Rattle.os_ast.specs.ClauseParts.{ClausePart, Item, Private, parts, part_name, count_items, is_in}
@@ -41,7 +41,7 @@ abbrev StandsSized : tree.ProgramTree → Note → Type 0
 StandsSized p (Used s n u) = Stands p (Used s n u)
 StandsSized p (Sized s n) = Stands p (Sized s n)
 StandsSized p (Declared s d) = Stands p (Declared s d) × HasSize (size_in p) s d.size
-StandsSized p (Given s n) = Stands p (Given s n)
+StandsSized p (Parameter s n) = Stands p (Parameter s n)
 StandsSized p (Global s n) = Stands p (Global s n)
 StandsSized p (Left s m) = Stands p (Left s m)
 StandsSized p (Returned s m) = Stands p (Returned s m)
@@ -53,7 +53,7 @@ stands-sized : (p : tree.ProgramTree) (n : Note) → StandsSized p n → Stands 
 stands-sized p (Used s n u) h = h
 stands-sized p (Sized s n) h = h
 stands-sized p (Declared s d) h = h.0
-stands-sized p (Given s n) h = h
+stands-sized p (Parameter s n) h = h
 stands-sized p (Global s n) h = h
 stands-sized p (Left s m) h = h
 stands-sized p (Returned s m) h = h
@@ -76,7 +76,7 @@ all-sized p [] h = tt
 all-sized p (Declared s d ∷ ns) h = (h.0.1, all-sized p ns h.1)
 all-sized p (Used s n u ∷ ns) h = all-sized p ns h.1
 all-sized p (Sized s n ∷ ns) h = all-sized p ns h.1
-all-sized p (Given s n ∷ ns) h = all-sized p ns h.1
+all-sized p (Parameter s n ∷ ns) h = all-sized p ns h.1
 all-sized p (Global s n ∷ ns) h = all-sized p ns h.1
 all-sized p (Left s m ∷ ns) h = all-sized p ns h.1
 all-sized p (Returned s m ∷ ns) h = all-sized p ns h.1
@@ -232,7 +232,7 @@ module _ (p : tree.ProgramTree) (s : Scope) (ok : IsSoundScope p s) where
       by_owner owner.OfFunction h = named-size i.value (size-told owner.OfFunction stream i h refl)
       by_owner owner.OfTask h = named-size i.value (size-told owner.OfTask stream i h refl)
 
--- Statements, in a program with so many streams.
+-- Statements, in a program with at least `top` streams besides the input and the output.
 module _ (p : tree.ProgramTree) (top : ℕ) (few : 2 + top ≤ streams p) where
   sound-below : (s : Scope) → s.streams ≤ top → Holds p s → IsSoundScope p s
   sound-below s below h = sound p s (omega (arith, below, few)) h
@@ -344,7 +344,7 @@ module _ (p : tree.ProgramTree) (top : ℕ) (few : 2 + top ≤ streams p) where
   stand-params s [] h below = tt
   stand-params s (n ∷ ns) h below = (sound-below s below h, stand-params (after_param s n) ns (holds-param p s n h) below)
 
--- Items, where so many names are declared before them.
+-- Items, where the names `before` are declared before them.
 or-false : (a b : Bool) → a ≡ false → b ≡ false → (a || b) ≡ false
 or-false true b h k = absurd (cc)
 or-false false b h k = k

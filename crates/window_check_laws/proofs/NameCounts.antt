@@ -1,11 +1,11 @@
--- A lawful program has no more names than tokens: so many variables it declares, and so many uses has it of them.
+-- A lawful program has no more names than tokens: those that declare variables or parameters, and those that use a name.
 use Rattle.std.proofs.Common.{◌≡◌, ℕ, suc, ◌+◌, ◌<◌, ◌≤◌, List, [], ◌∷◌, ◌++◌, length, length-append, Option, Some, None, sym, subst, refl, arith, Bool}
 use Rattle.std.specs.Prelude.{⊤}
 use Rattle.std.proofs.lemmas.List.{length-map}
 use Rattle.os_ast.specs.Marks.{HasMark, HasPlaces}
 use Rattle.os_ast.specs.Names.{entity_of, lookup, flag_of}
 use Rattle.os_ast.specs.Notes.Declarators.{constant_of}
-use Rattle.os_ast.specs.Notes.Kinds.{Declared, Given, Global, Left, Listed, Note, Pragma, Returned, Sized, Task, Used}
+use Rattle.os_ast.specs.Notes.Kinds.{Declared, Parameter, Global, Left, Listed, Note, Pragma, Returned, Sized, Task, Used}
 use Rattle.os_ast.specs.Notes.Programs.{file, program_notes}
 use Rattle.os_ast.specs.Spelling.{Symbol, bare, kind_of, marked, symbols, spell}
 use Rattle.os_ast.specs.Trees as tree
@@ -22,7 +22,7 @@ use Rattle.window_check_laws.specs.Told.{AreLawful}
 -- what declares a variable or a parameter, and what uses a name
 abbrev pub declares : Note → ℕ
 declares (Declared s d) = 1
-declares (Given s n) = 1
+declares (Parameter s n) = 1
 declares (Used s n u) = 0
 declares (Sized s n) = 0
 declares (Global s n) = 0
@@ -35,7 +35,7 @@ declares (Listed before n) = 0
 abbrev pub uses : Note → ℕ
 uses (Used s n u) = 1
 uses (Declared s d) = 0
-uses (Given s n) = 0
+uses (Parameter s n) = 0
 uses (Sized s n) = 0
 uses (Global s n) = 0
 uses (Left s m) = 0
@@ -67,7 +67,7 @@ one_meaning m u o captured d e is = subst (λ x. 1 ≤ length (declared_meaning 
 each_has_one : (n : Note) → AreLawful (n ∷ []) → declares n + uses n ≤ length (resolutions_of n)
 each_has_one (Used s n u) lawful = let d = declared-use s n u lawful in one_meaning n.mark (flag_of (lookup s.entries n.id)) s.owner s.captured (entity_of (lookup s.entries n.id)) d.0 d.1
 each_has_one (Declared s d) lawful = omega arith
-each_has_one (Given s n) lawful = omega arith
+each_has_one (Parameter s n) lawful = omega arith
 each_has_one (Sized s n) lawful = omega arith
 each_has_one (Global s n) lawful = omega arith
 each_has_one (Left s m) lawful = omega arith
@@ -117,7 +117,7 @@ each_below : (n : ℕ) (x : Note) → AreOf (λ m. m.place < n) (x ∷ []) → B
 each_below k (Used s n u) h = declared_below k n.mark (flag_of (lookup s.entries n.id)) s.owner s.captured (entity_of (lookup s.entries n.id)) h.0
 each_below k (Sized s n) h = constant_below k n.mark (flag_of (lookup s.entries n.id)) (constant_of (entity_of (lookup s.entries n.id))) h.0
 each_below k (Declared s d) h = (h.0, tt)
-each_below k (Given s n) h = (h.0, tt)
+each_below k (Parameter s n) h = (h.0, tt)
 each_below k (Global s n) h = tt
 each_below k (Left s m) h = tt
 each_below k (Returned s m) h = tt

@@ -14,7 +14,7 @@ use Rattle.os_ast.specs.Notes.Expressions.{expr_notes, place_notes, args_notes, 
 use Rattle.os_ast.specs.Notes.Kinds.{Note, Used, Task}
 use Rattle.os_ast.specs.Notes.Programs.{params_notes, after_param, param_list, item_notes, items_notes, after_item, in_function, in_body, program_notes, file}
 use Rattle.os_ast.specs.Notes.Statements.{stmt_notes, stmts_notes, after_stmt}
-use Rattle.os_ast.specs.ClauseParts.{ClausePart, Item, Private, parts, parts_of, part_name, count_items}
+use Rattle.os_ast.specs.ClauseParts.{ClausePart, Item, Private, parts, clause_parts, part_name, count_items}
 use Rattle.os_ast.specs.Rules.{has_no_size, has_too_many}
 use Rattle.os_ast.specs.Spelling as spelling
 use Rattle.os_ast.specs.Spelling.{Symbol, ◌⨾◌}
@@ -265,8 +265,8 @@ at-private_list s before [] rest h = refl
 at-private_list s before (n ∷ ns) rest h =
     used s n usage.Private (parts_notes s (n.id ∷ before) (map Private ns)) _ h.1.0 (at-privates s (n.id ∷ before) ns rest h.1.1)
 
-at-kind : (s : Scope) (before : List ℕ) (k : tree.ClauseKindTree) (rest : List Symbol) → AreLawful (parts_notes s before (parts_of k)) →
-    name_places (spelling.clause_kind k rest) ≡ told (parts_notes s before (parts_of k)) ++ name_places rest
+at-kind : (s : Scope) (before : List ℕ) (k : tree.ClauseKindTree) (rest : List Symbol) → AreLawful (parts_notes s before (clause_parts k)) →
+    name_places (spelling.clause_kind k rest) ≡ told (parts_notes s before (clause_parts k)) ++ name_places rest
 at-kind s before (tree.Input is) rest h = at-item_list s before direction.Reads puncts.ShiftRight is (spelling.punct puncts.CloseParen rest) h
 at-kind s before (tree.Output is) rest h = at-item_list s before direction.Writes puncts.ShiftLeft is (spelling.punct puncts.CloseParen rest) h
 at-kind s before (tree.Firstprivate ns) rest h = at-private_list s before ns (spelling.punct puncts.CloseParen rest) h
@@ -290,12 +290,12 @@ at-clauses : (s : Scope) (before : List ℕ) (cs : List tree.ClauseTree) (rest :
 at-clauses s before [] rest h = refl
 at-clauses s before (c ∷ cs) rest h =
     let more = spelling.each spelling.clause cs rest in
-    let here = parts_notes s before (parts_of c.kind) in
-    let later = parts_notes s (names_behind before (parts_of c.kind)) (parts cs) in
-    let split = parts-append s before (parts_of c.kind) (parts cs) in
+    let here = parts_notes s before (clause_parts c.kind) in
+    let later = parts_notes s (names_behind before (clause_parts c.kind)) (parts cs) in
+    let split = parts-append s before (clause_parts c.kind) (parts cs) in
     let lawful : AreLawful (here ++ later) = subst AreLawful split h in
     at-comma c.comma (spelling.clause_kind c.kind more)
-    ∙ joined _ here later (at-kind s before c.kind more (lawful-first here later lawful)) (at-clauses s (names_behind before (parts_of c.kind)) cs rest (lawful-rest here later lawful))
+    ∙ joined _ here later (at-kind s before c.kind more (lawful-first here later lawful)) (at-clauses s (names_behind before (clause_parts c.kind)) cs rest (lawful-rest here later lawful))
     ∙ ap (λ (ns : List Note). told ns ++ name_places rest) (sym split)
 
 mutual

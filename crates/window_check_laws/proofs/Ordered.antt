@@ -10,11 +10,11 @@ use Rattle.os_ast.specs.Names.{Scope, entity_of, lookup, enter, in_loop, typed, 
 use Rattle.os_ast.specs.Notes.Clauses.{part_notes, parts_notes, window_notes, shape_of, in_task_body}
 use Rattle.os_ast.specs.Notes.Declarators.{declarator_notes, declarators_notes, after_declarator, after_start, start_notes, sized_notes, size_notes, constant_of, is_window}
 use Rattle.os_ast.specs.Notes.Expressions.{expr_notes, place_notes, args_notes, links_notes, value_notes, index_notes, change_notes, step_notes, count_args}
-use Rattle.os_ast.specs.Notes.Kinds.{Note, Used, Sized, Declared, Given, Global, Left, Returned, Pragma, Task, Listed}
+use Rattle.os_ast.specs.Notes.Kinds.{Note, Used, Sized, Declared, Parameter, Global, Left, Returned, Pragma, Task, Listed}
 use Rattle.os_ast.specs.Notes.Programs.{params_notes, after_param, param_list, item_notes, items_notes, after_item, in_function, in_body, program_notes, file}
 use Rattle.os_ast.specs.Notes.Statements.{stmt_notes, stmts_notes, after_stmt}
 use Rattle.os_ast.specs.Operators.{assign_mark, step_mark}
-use Rattle.os_ast.specs.ClauseParts.{ClausePart, Item, Private, parts, parts_of, part_name, count_items, target_name}
+use Rattle.os_ast.specs.ClauseParts.{ClausePart, Item, Private, parts, clause_parts, part_name, count_items, target_name}
 use Rattle.os_ast.specs.Spelling as spelling
 use Rattle.os_ast.specs.Spelling.{Symbol, bare, marked, symbols, ◌⨾◌}
 use Rattle.os_ast.specs.Trees as tree
@@ -49,7 +49,7 @@ abbrev pub name_mark : Note → List Mark
 name_mark (Used s n u) = n.mark ∷ []
 name_mark (Sized s n) = n.mark ∷ []
 name_mark (Declared s d) = d.name.mark ∷ []
-name_mark (Given s p) = p.name.mark ∷ []
+name_mark (Parameter s p) = p.name.mark ∷ []
 name_mark _ = []
 
 abbrev pub name_marks : List Note → List Mark
@@ -315,7 +315,7 @@ in-private_list s before (n ∷ ns) lo rest h =
     let one = in-private s before n lo more h in
     both one (in-privates s (n.id ∷ before) ns one.to rest one.after)
 
-in-kind : (s : Scope) (before : List ℕ) (k : tree.ClauseKindTree) (lo : ℕ) (rest : List Symbol) → HasFrom lo (spelling.clause_kind k rest) → Passed lo (parts_notes s before (parts_of k)) rest
+in-kind : (s : Scope) (before : List ℕ) (k : tree.ClauseKindTree) (lo : ℕ) (rest : List Symbol) → HasFrom lo (spelling.clause_kind k rest) → Passed lo (parts_notes s before (clause_parts k)) rest
 in-kind s before (tree.Input is) lo rest h =
     opened (opened (closed (in-item_list s before direction.Reads puncts.ShiftRight is (suc (suc lo)) (spelling.punct puncts.CloseParen rest) h)))
 in-kind s before (tree.Output is) lo rest h =
@@ -324,7 +324,7 @@ in-kind s before (tree.Firstprivate ns) lo rest h =
     opened (opened (closed (in-private_list s before ns (suc (suc lo)) (spelling.punct puncts.CloseParen rest) h)))
 
 in-clause : (s : Scope) (before : List ℕ) (comma : Bool) (k : tree.ClauseKindTree) (lo : ℕ) (rest : List Symbol) →
-    HasFrom lo (spelling.comma comma (spelling.clause_kind k rest)) → Passed lo (parts_notes s before (parts_of k)) rest
+    HasFrom lo (spelling.comma comma (spelling.clause_kind k rest)) → Passed lo (parts_notes s before (clause_parts k)) rest
 in-clause s before false k lo rest h = in-kind s before k lo rest h
 in-clause s before true k lo rest h = opened (in-kind s before k (suc lo) rest h)
 
@@ -333,8 +333,8 @@ in-clauses : (s : Scope) (before : List ℕ) (cs : List tree.ClauseTree) (lo : �
 in-clauses s before [] lo rest h = silent lo rest h
 in-clauses s before (c ∷ cs) lo rest h =
     let one = in-clause s before c.comma c.kind lo (spelling.each spelling.clause cs rest) h in
-    subst (λ ns. Passed lo ns rest) (sym (parts_notes-append s before (parts_of c.kind) (parts cs)))
-    (both one (in-clauses s (names_after before (parts_of c.kind)) cs one.to rest one.after))
+    subst (λ ns. Passed lo ns rest) (sym (parts_notes-append s before (clause_parts c.kind) (parts cs)))
+    (both one (in-clauses s (names_after before (clause_parts c.kind)) cs one.to rest one.after))
 
 -- a note of no name behind a part
 then_quiet : {lo : ℕ} {ns : List Note} {rest : List Symbol} (n : Note) → name_mark n ≡ [] → Passed lo ns rest → Passed lo (ns ++ n ∷ []) rest
@@ -394,14 +394,14 @@ in-params : (s : Scope) (ns : List Param) (lo : ℕ) (rest : List Symbol) →
     HasFrom lo (spelling.each (λ p. spelling.punct puncts.Comma ⨾ spelling.param p) ns rest) → Passed lo (params_notes s ns) rest
 in-params s [] lo rest h = silent lo rest h
 in-params s (p ∷ ps) lo rest h =
-    opened (behind_type p.ty _ h (λ mid g. with_name (Given s p) p.name.mark refl g.0 (in-params (after_param s p) ps (suc mid) rest g.1)))
+    opened (behind_type p.ty _ h (λ mid g. with_name (Parameter s p) p.name.mark refl g.0 (in-params (after_param s p) ps (suc mid) rest g.1)))
 
 in-param_list : (s : Scope) (ps : Params) (lo : ℕ) (rest : List Symbol) → HasFrom lo (spelling.params ps rest) → Passed lo (params_notes s (param_list ps)) rest
 in-param_list s params_of.Empty lo rest h = silent lo rest h
 in-param_list s params_of.Void lo rest h = opened (silent (suc lo) rest h)
 in-param_list s (params_of.Names []) lo rest h = silent lo rest h
 in-param_list s (params_of.Names (p ∷ ps)) lo rest h =
-    behind_type p.ty _ h (λ mid g. with_name (Given s p) p.name.mark refl g.0 (in-params (after_param s p) ps (suc mid) rest g.1))
+    behind_type p.ty _ h (λ mid g. with_name (Parameter s p) p.name.mark refl g.0 (in-params (after_param s p) ps (suc mid) rest g.1))
 
 in-sign : (minus : Bool) (lo : ℕ) (rest : List Symbol) → HasFrom lo (spelling.sign minus rest) → Passed lo [] rest
 in-sign false lo rest h = silent lo rest h
@@ -450,7 +450,7 @@ below_next place (Sized s n ∷ ns) hi a =
     below_found None h k = h
     below_found (Some v) h k = (omega (arith, a.0), k)
 below_next place (Declared s d ∷ ns) hi a = (omega (arith, a.0), below_next d.name.mark.place ns hi a.1)
-below_next place (Given s p ∷ ns) hi a = (omega (arith, a.0), below_next p.name.mark.place ns hi a.1)
+below_next place (Parameter s p ∷ ns) hi a = (omega (arith, a.0), below_next p.name.mark.place ns hi a.1)
 below_next place (Global s n ∷ ns) hi a = below_next place ns hi a
 below_next place (Left s m ∷ ns) hi a = below_next place ns hi a
 below_next place (Returned s m ∷ ns) hi a = below_next place ns hi a
@@ -471,7 +471,7 @@ in_order lo (Sized s n ∷ ns) hi a = order_found (constant_of (entity_of (looku
     order_found None h = h
     order_found (Some v) h = below_next n.mark.place ns hi a.1
 in_order lo (Declared s d ∷ ns) hi a = below_next d.name.mark.place ns hi a.1
-in_order lo (Given s p ∷ ns) hi a = below_next p.name.mark.place ns hi a.1
+in_order lo (Parameter s p ∷ ns) hi a = below_next p.name.mark.place ns hi a.1
 in_order lo (Global s n ∷ ns) hi a = in_order lo ns hi a
 in_order lo (Left s m ∷ ns) hi a = in_order lo ns hi a
 in_order lo (Returned s m ∷ ns) hi a = in_order lo ns hi a

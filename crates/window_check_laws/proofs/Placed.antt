@@ -11,7 +11,7 @@ use Rattle.os_ast.specs.Notes.Expressions.{expr_notes, place_notes, args_notes, 
 use Rattle.os_ast.specs.Notes.Kinds.{Note, mark_of}
 use Rattle.os_ast.specs.Notes.Programs.{params_notes, after_param, param_list, item_notes, items_notes, after_item, in_function, in_body}
 use Rattle.os_ast.specs.Notes.Statements.{stmt_notes, stmts_notes, after_stmt}
-use Rattle.os_ast.specs.ClauseParts.{ClausePart, Item, Private, parts, parts_of, part_name, target_name}
+use Rattle.os_ast.specs.ClauseParts.{ClausePart, Item, Private, parts, clause_parts, part_name, target_name}
 use Rattle.os_ast.specs.Spelling as spelling
 use Rattle.os_ast.specs.Spelling.{Symbol, bare, marked, ◌⨾◌}
 use Rattle.os_ast.specs.Trees as tree
@@ -220,7 +220,7 @@ of-private_list : (P : Mark → Type 0) (s : Scope) (ns : List Name) (rest : Lis
 of-private_list P s [] rest h = (tt, h)
 of-private_list P s (n ∷ ns) rest h = let more = of-privates P s ns rest h.1 in ((λ before. of-private P s n before h.0, more.0), more.1)
 
-of-kind : (P : Mark → Type 0) (s : Scope) (k : tree.ClauseKindTree) (rest : List Symbol) → HasKept P (spelling.clause_kind k rest) → ArePlaced P s (parts_of k) × HasKept P rest
+of-kind : (P : Mark → Type 0) (s : Scope) (k : tree.ClauseKindTree) (rest : List Symbol) → HasKept P (spelling.clause_kind k rest) → ArePlaced P s (clause_parts k) × HasKept P rest
 of-kind P s (tree.Input is) rest h = of-item_list P s direction.Reads puncts.ShiftRight is _ h
 of-kind P s (tree.Output is) rest h = of-item_list P s direction.Writes puncts.ShiftLeft is _ h
 of-kind P s (tree.Firstprivate ns) rest h = of-private_list P s ns _ h
@@ -234,7 +234,7 @@ of-clauses P s [] rest h = (tt, h)
 of-clauses P s (c ∷ cs) rest h =
     let one = of-kind P s c.kind _ (of-comma P c.comma _ h) in
     let more = of-clauses P s cs rest one.1 in
-    (placed-append P s (parts_of c.kind) (parts cs) one.0 more.0, more.1)
+    (placed-append P s (clause_parts c.kind) (parts cs) one.0 more.0, more.1)
 
 of-task : (P : Mark → Type 0) (s : Scope) (m : Mark) (ps : List ClausePart) (a : tree.StmtTree) → P m → ArePlaced P s ps → AreOf P (clauses_notes s m ps a)
 of-task P s m ps a h is = of-append P (parts_notes s [] ps) _ (of-parts P s [] ps is) (h, tt)

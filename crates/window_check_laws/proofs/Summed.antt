@@ -8,7 +8,7 @@ use Rattle.os_ast.specs.Names.{Scope, declare, enter, in_loop, in_unit, typed, f
 use Rattle.os_ast.specs.Notes.Clauses.{captured_in, in_task, in_task_body, item_entity, with_items, item_flag}
 use Rattle.os_ast.specs.Notes.Declarators.{form, form_with, sized_form, size_of, taken, form_entity, declared_entity, scalar_entity, declarator_notes, declarators_notes, after_declarator, after_declarators, after_start, start_notes}
 use Rattle.os_ast.specs.Notes.Expressions.{expr_notes, value_notes, step_notes}
-use Rattle.os_ast.specs.Notes.Kinds.{Note, Used, Sized, Declared, Given, Global, Left, Returned, Pragma, Task, Listed}
+use Rattle.os_ast.specs.Notes.Kinds.{Note, Used, Sized, Declared, Parameter, Global, Left, Returned, Pragma, Task, Listed}
 use Rattle.os_ast.specs.Notes.Programs.{after_param, after_params, in_body, in_function, owner_of, param_list, round_body}
 use Rattle.os_ast.specs.Notes.Statements.{after_stmt, after_stmts, stmt_notes, stmts_notes}
 use Rattle.os_ast.specs.ClauseParts.{Item, ClausePart, Private, item_name}
@@ -31,7 +31,7 @@ sizes-first size [] ys h = tt
 sizes-first size (Used s n u ∷ xs) ys h = sizes-first size xs ys h
 sizes-first size (Sized s n ∷ xs) ys h = sizes-first size xs ys h
 sizes-first size (Declared s d ∷ xs) ys h = (h.0, sizes-first size xs ys h.1)
-sizes-first size (Given s n ∷ xs) ys h = sizes-first size xs ys h
+sizes-first size (Parameter s n ∷ xs) ys h = sizes-first size xs ys h
 sizes-first size (Global s n ∷ xs) ys h = sizes-first size xs ys h
 sizes-first size (Left s m ∷ xs) ys h = sizes-first size xs ys h
 sizes-first size (Returned s m ∷ xs) ys h = sizes-first size xs ys h
@@ -44,7 +44,7 @@ sizes-rest size [] ys h = h
 sizes-rest size (Used s n u ∷ xs) ys h = sizes-rest size xs ys h
 sizes-rest size (Sized s n ∷ xs) ys h = sizes-rest size xs ys h
 sizes-rest size (Declared s d ∷ xs) ys h = sizes-rest size xs ys h.1
-sizes-rest size (Given s n ∷ xs) ys h = sizes-rest size xs ys h
+sizes-rest size (Parameter s n ∷ xs) ys h = sizes-rest size xs ys h
 sizes-rest size (Global s n ∷ xs) ys h = sizes-rest size xs ys h
 sizes-rest size (Left s m ∷ xs) ys h = sizes-rest size xs ys h
 sizes-rest size (Returned s m ∷ xs) ys h = sizes-rest size xs ys h

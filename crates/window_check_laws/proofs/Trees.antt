@@ -4,7 +4,7 @@ use Rattle.std.proofs.Math.Seq.{drop-cons}
 use Rattle.os_ast.proofs.Rows.{stmt_tree-block}
 use Rattle.os_ast.specs.Trees as tree
 use Rattle.os_ast.specs.Names.{Scope}
-use Rattle.os_ast.specs.ClauseParts.{parts, parts_of}
+use Rattle.os_ast.specs.ClauseParts.{parts, clause_parts}
 use Rattle.os_ast.specs.Notes.Declarators.{after_declarator, after_declarators, declarator_notes, declarators_notes}
 use Rattle.os_ast.specs.Notes.Expressions.{count_args}
 use Rattle.os_ast.specs.Notes.Statements.{after_stmt, after_stmts, stmt_notes, stmts_notes}
@@ -38,7 +38,7 @@ pub map-drop : {A B : Type 0} (view : A → B) (xs : List A) (i : ℕ) (x : A) �
 map-drop view xs i x h is = rw (drop-cons xs i x h, ← is, add-one)
 
 pub parts-drop : (cs : List Clause) (i : ℕ) (c : Clause) → i < length cs → c ≡ get_or cs i c →
-    parts (map clause_tree (drop i cs)) ≡ parts_of (clause_tree c).kind ++ parts (map clause_tree (drop (i + 1) cs))
+    parts (map clause_tree (drop i cs)) ≡ clause_parts (clause_tree c).kind ++ parts (map clause_tree (drop (i + 1) cs))
 parts-drop cs i c h is = rw (drop-cons cs i c h, ← is, add-one)
 
 pub stmts_notes-drop : (s : Scope) (ss : List Stmt) (i : ℕ) (a : Stmt) → i < length ss → a ≡ get_or ss i a →

@@ -5,12 +5,12 @@ use Rattle.os_ast.specs.Notes.Kinds.{Note}
 use Rattle.os_ast.specs.declared.names.Entry.{Entry}
 use Rattle.window_check_laws.specs.Slots.{control_slots, named_slots}
 
--- those that used names mean
+-- the slots that used names mean
 abbrev pub used_slots : List Note → List ℕ
 used_slots [] = []
 used_slots (n ∷ ns) = named_slots n ++ used_slots ns
 
--- those that names mean where this is in scope
+-- the slots that names mean where `es` is in scope
 abbrev pub slots_named : List Entry → List ℕ → List ℕ
 slots_named es [] = []
 slots_named es (id ∷ ids) = control_slots (entity_of (lookup es id)) ++ slots_named es ids

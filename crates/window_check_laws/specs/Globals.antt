@@ -3,6 +3,7 @@ use Rattle.std.specs.Prelude.{⊤, ◌≡◌, ℕ, suc, ◌≤◌, false, List, 
 use Rattle.os_ast.specs.Limits.{arrays_limit, streams_limit}
 use Rattle.os_ast.specs.Names.{Scope}
 use Rattle.os_ast.specs.ClauseParts.{is_in}
+use Rattle.os_ast.specs.Notes.Programs.{global_id}
 use Rattle.os_ast.specs.Trees as tree
 
 -- how many functions there are
@@ -11,16 +12,12 @@ count_functions [] = 0
 count_functions (tree.Constant c ∷ is) = count_functions is
 count_functions (tree.Function f ∷ is) = suc (count_functions is)
 
-abbrev pub global_id : tree.ItemTree → ℕ
-global_id (tree.Constant c) = c.name.id
-global_id (tree.Function f) = f.name.id
-
 -- none of the names is another one's, or one of some
 abbrev pub AreApart : List ℕ → List tree.ItemTree → Type 0
 AreApart before [] = ⊤
 AreApart before (i ∷ is) = (is_in (global_id i) before ≡ false) × AreApart (global_id i ∷ before) is
 
--- so many streams and elements of local arrays a program may have
+-- a program has no more streams and elements of local arrays than it may have
 pub record IsWithin (s : Scope) : Type 0 where
   pub streams : s.streams ≤ streams_limit
   pub arrays : s.arrays ≤ arrays_limit

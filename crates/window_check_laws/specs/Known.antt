@@ -2,7 +2,7 @@
 use Rattle.std.specs.Prelude.{⊤, ◌≡◌, ℕ, suc, ◌+◌, ◌<◌, ◌≤◌, ◌==◌, if◌then◌else◌, List, [], ◌∷◌, length, Option, Some, None, unwrap_or, ℤ, pos}
 use Rattle.os_ast.specs.Names.{Scope, lookup, entity_of, constant_value}
 use Rattle.os_ast.specs.Notes.Declarators.{limited, constant_of}
-use Rattle.os_ast.specs.Notes.Kinds.{Note, Used, Sized, Declared, Given, Global, Left, Returned, Pragma, Task, Listed}
+use Rattle.os_ast.specs.Notes.Kinds.{Note, Used, Sized, Declared, Parameter, Global, Left, Returned, Pragma, Task, Listed}
 use Rattle.os_ast.specs.Notes.Programs.{param_list}
 use Rattle.os_ast.specs.Stacked.{Stacked}
 use Rattle.os_ast.specs.Trees as tree
@@ -11,7 +11,7 @@ use Rattle.os_ast.specs.declared.names.Entity.{Entity}
 use Rattle.os_ast.specs.declared.names.Entity.TheVariants as entity
 use Rattle.window_check_laws.specs.Sums.{extent_in}
 
--- what the item of a name declares, where so many functions stand before the items
+-- what the item of a name declares, where `number` functions stand before the items
 abbrev pub global_behind : ℕ → List tree.ItemTree → ℕ → Option Entity
 global_behind number [] id = None
 global_behind number (tree.Constant c ∷ is) id =
@@ -62,7 +62,7 @@ abbrev pub Stands : tree.ProgramTree → Note → Type 0
 Stands p (Used s n u) = IsSoundScope p s
 Stands p (Sized s n) = IsSoundScope p s × IsConstant p s n.id
 Stands p (Declared s d) = IsSoundScope p s
-Stands p (Given s n) = IsSoundScope p s
+Stands p (Parameter s n) = IsSoundScope p s
 Stands p (Global s n) = IsSoundScope p s
 Stands p (Left s m) = IsSoundScope p s
 Stands p (Returned s m) = IsSoundScope p s

@@ -11,7 +11,7 @@ use Rattle.os_ast.specs.declared.names.Entity.TheVariants as entity
 abbrev pub with_slot : ℕ → List ℕ → List ℕ
 with_slot slot slots = insert_key nat_cmp slots slot
 
--- with several more
+-- slots with several more
 abbrev pub with_slots : List ℕ → List ℕ → List ℕ
 with_slots [] slots = slots
 with_slots (x ∷ xs) slots = with_slots xs (with_slot x slots)

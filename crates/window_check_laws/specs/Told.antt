@@ -29,7 +29,7 @@ test r is_violated = record { rule = r; is_violated = is_violated }
 abbrev pub rules : List RuleTest
 rules = map (λ r. test r (is_violated_by r)) note_rules
 
--- those of some rules that what stands at a token violates
+-- the rules among some that what stands at a token violates
 abbrev pub broken_among : List RuleTest → Note → List Rule
 broken_among ts n = flat_map (λ (t : RuleTest). when (t.is_violated n) t.rule) ts
 

@@ -8,7 +8,7 @@ use Rattle.os_ast.specs.Notes.Statements.{after_stmt, after_stmts}
 use Rattle.os_ast.specs.ClauseParts.{parts}
 use Rattle.os_ast.specs.Trees as tree
 
--- those of the tasks in a statement
+-- the slots of the tasks in a statement, together
 abbrev mutual
   pub tasks_slots : Scope → tree.StmtTree → ℕ
   tasks_slots s tree.StmtTree.Empty = 0
@@ -32,7 +32,7 @@ abbrev mutual
   all_tasks_slots s tree.no_stmts = 0
   all_tasks_slots s (tree.stmt a rest) = tasks_slots s a + all_tasks_slots (after_stmt s a) rest
 
--- those of items, and of the tasks in them
+-- the slots of the functions among items and of the tasks in them, together
 abbrev pub items_slots : Scope → List tree.ItemTree → ℕ
 items_slots s [] = 0
 items_slots s (tree.Constant c ∷ is) = items_slots (after_item s (tree.Constant c)) is
@@ -40,6 +40,6 @@ items_slots s (tree.Function f ∷ is) =
     let body = in_body s f in
     (after_stmts body f.body).slots + all_tasks_slots body f.body + items_slots (after_item s (tree.Function f)) is
 
--- those of a program
+-- the slots of all units of a program, together
 abbrev pub program_slots : tree.ProgramTree → ℕ
 program_slots p = items_slots file p

@@ -2,6 +2,7 @@
 
 ghost use Rattle.os_ast.specs.Captured.{captured, slots_of};
 ghost use Rattle.os_ast.specs.Leveled.{AreStmts, IsLeveled, IsStmt};
+ghost use Rattle.os_ast.specs.Limits.{all_streams_limit, slots_limit};
 ghost use Rattle.os_ast.specs.Marks.{HasPlaces};
 ghost use Rattle.os_ast.specs.Meanings.{meaning_in, resolved};
 ghost use Rattle.os_ast.specs.Means.{Means};
@@ -23,6 +24,7 @@ ghost use Rattle.os_ast.specs.declared.names.Entry.{Entry};
 ghost use Rattle.os_ast.specs.declared.names.Resolved.{Resolved};
 ghost use Rattle.os_ast.specs.declared.names.Use.{Use};
 ghost use Rattle.os_ast.specs.declared.names.What.{What};
+ghost use Rattle.os_lexer.specs.Limits.{text_limit};
 ghost use Rattle.os_lexer.specs.declared.token.Token.{Token};
 ghost use Rattle.std.specs.Prelude.{◌≡◌, ◌≤◌, ◌||◌, ◌+◌, ◌++◌, ◌∷◌, [], ℕ, Bool, List, Contains, length, map};
 ghost use Rattle.window_check_laws.specs.CapturedByUse.{Ascends, slots_named, used_slots};
@@ -127,8 +129,8 @@ pub fn functions_are_numbered()
 /// have at most 2,097,152 slots in all, where it is spelled by a text's tokens.
 pub fn limits_are_kept()
     ensures within { (p : ProgramTree) → violations p ≡ [] → IsWithin (after_items file p) }
-    ensures streams { (p : ProgramTree) → violations p ≡ [] → streams p ≤ 65538 }
-    ensures slots { (p : ProgramTree) → HasPlaces p → violations p ≡ [] → length (spell p) ≤ 262144 → program_slots p ≤ 2097152 }
+    ensures streams { (p : ProgramTree) → violations p ≡ [] → streams p ≤ all_streams_limit }
+    ensures slots { (p : ProgramTree) → HasPlaces p → violations p ≡ [] → length (spell p) ≤ text_limit → program_slots p ≤ slots_limit }
 {}
 
 /// Every name token of a lawful program that is used or declares a variable has its entry in the names, and no other

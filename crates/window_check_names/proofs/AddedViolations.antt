@@ -4,11 +4,11 @@ use Rattle.std.specs.Prelude.{is_none}
 use Rattle.std.proofs.lemmas.List.{length-map}
 use Rattle.os_ast.specs.Captured.{Scalar, slots_of}
 use Rattle.os_ast.specs.Limits.{is_size, elements_limit, arrays_limit, streams_limit}
-use Rattle.os_ast.specs.Meanings.{meaning}
+use Rattle.os_ast.specs.Meanings.{what_declared}
 use Rattle.os_ast.specs.Names.{Scope, declare, is_declared, lookup, entity_of, flag_of}
 use Rattle.os_ast.specs.Notes.Clauses.{captured_in}
 use Rattle.os_ast.specs.Notes.Declarators.{form, form_with, sized_form, limited, size_value, size_told, taken, after_declarator, scalar_entity, declared_entity, constant_of}
-use Rattle.os_ast.specs.Notes.Kinds.{Sized, Declared, Given, Global, Left, Returned, Pragma, Task, Listed}
+use Rattle.os_ast.specs.Notes.Kinds.{Sized, Declared, Parameter, Global, Left, Returned, Pragma, Task, Listed}
 use Rattle.os_ast.specs.Rules.{when, is_main_body, is_task_body, is_outermost, has_no_size, has_too_many, takes_more}
 use Rattle.os_ast.specs.Trees.{DeclaratorTree, IndexTree}
 use Rattle.os_ast.specs.Violations.{constant_meaning, main_task}
@@ -77,11 +77,11 @@ with_violation-listed (Collecting vs) before n = recollected vs n.mark (listed_a
 
 -- a parameter
 pub means-given : (f : Found) (s : Scope) (p : Param) →
-    means (with_violations f p.name.mark (rule_list (least_rule (when (is_declared s p.name.id) rule.DeclaredTwice)))) p.name.mark (meaning (scalar_entity s.owner s.slots)) (is_unsigned p.ty)
-    ≡ note f (Given s p)
+    means (with_violations f p.name.mark (rule_list (least_rule (when (is_declared s p.name.id) rule.DeclaredTwice)))) p.name.mark (what_declared (scalar_entity s.owner s.slots)) (is_unsigned p.ty)
+    ≡ note f (Parameter s p)
 means-given (Listing slots) s p = refl
 means-given (Judging j) s p =
-    ap (λ f. means f p.name.mark (meaning (scalar_entity s.owner s.slots)) (is_unsigned p.ty)) (recoded j p.name.mark (ap least_rule (listed_alone (is_declared s p.name.id) rule.DeclaredTwice)))
+    ap (λ f. means f p.name.mark (what_declared (scalar_entity s.owner s.slots)) (is_unsigned p.ty)) (recoded j p.name.mark (ap least_rule (listed_alone (is_declared s p.name.id) rule.DeclaredTwice)))
 means-given (Collecting vs) s p = recollected vs p.name.mark (listed_alone (is_declared s p.name.id) rule.DeclaredTwice)
 
 -- a declarator
@@ -149,12 +149,12 @@ pub means-declared : (f : Found) (s : Scope) (d : DeclaratorTree) →
     (rule_list (least_rule (when (is_declared s d.name.id) rule.DeclaredTwice))
     ++ (rule_list (least_rule (when (passes_limit (taken s (form s d)) (form s d)) rule.WrongSize))
     ++ rule_list (least_rule (when (d.stream && not (is_outermost s.owner s.depth)) rule.Misplaced)))))
-    d.name.mark (meaning (declared_entity s d)) s.unsigned
+    d.name.mark (what_declared (declared_entity s d)) s.unsigned
     ≡ note f (Declared s d)
 means-declared (Listing slots) s d = refl
 means-declared (Judging j) s d =
     ap
-    (λ f. means f d.name.mark (meaning (declared_entity s d)) s.unsigned)
+    (λ f. means f d.name.mark (what_declared (declared_entity s d)) s.unsigned)
     (recoded j d.name.mark (ap least_rule (declared-rules s d)))
 means-declared (Collecting vs) s d = recollected vs d.name.mark (declared-rules s d)
 

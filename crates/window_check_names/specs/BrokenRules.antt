@@ -9,7 +9,7 @@ abbrev pub rule_list : Option Rule → List Rule
 rule_list None = []
 rule_list (Some r) = r ∷ []
 
--- all of them
+-- all the rules that a token violates
 abbrev pub all_rules : BrokenRules → List Rule
 all_rules rs = rule_list rs.first ++ (rule_list rs.second ++ rule_list rs.third)
 

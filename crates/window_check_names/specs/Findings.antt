@@ -49,11 +49,11 @@ judged j n = record {
   captured = pushed j.captured (captures_of n);
 }
 
--- or its violations are collected
+-- the violations of what stands at one more token are collected
 abbrev pub collected : List Violation → Note → List Violation
 collected vs n = pushed vs (violations_at (mark_of n) (broken n))
 
--- or what it names is listed
+-- what stands at one more token is noted: the slot that it names is listed, or it is judged, or its violations are collected
 abbrev pub note : Found → Note → Found
 note (Listing slots) n = Listing (with_slots (named_slots n) slots)
 note (Judging j) n = Judging (judged j n)
@@ -123,7 +123,7 @@ slots_found (Listing slots) = slots
 slots_found (Judging j) = []
 slots_found (Collecting vs) = []
 
--- what was judged
+-- what a walk judged; nothing where it didn't judge
 abbrev pub judged_in : Found → Judged
 judged_in (Listing slots) = nothing_found
 judged_in (Judging j) = j

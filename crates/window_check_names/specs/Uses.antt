@@ -100,13 +100,13 @@ private_rules (entity.Control slot) = []
 private_rules entity.InputLength = []
 private_rules e = misplaced e
 
--- those of a name with an index or without, by where it stands
+-- the rules that a name with an index or without violates, by where it stands
 abbrev pub role_rules : Role → Shape → Entity → List Rule
 role_rules role.Value = value_rules
 role_rules role.Changed = target_rules
 role_rules (role.Flow d) = stream_rules d
 
--- those of a used name, by its number
+-- the rules that a used name violates, by its number
 abbrev pub use_rules : ℕ → Use → Entity → List Rule
 use_rules id (usage.Place r s) = role_rules r s
 use_rules id (usage.Called args) = call_rules id args

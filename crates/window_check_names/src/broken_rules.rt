@@ -66,7 +66,7 @@ impl BrokenRules {
         }
     }
 
-    /// They one after another.
+    /// The rules in the order in which they were given, none where fewer are broken.
     pub(crate) fn parts(self) -> (Option<Rule>, Option<Rule>, Option<Rule>)
         ensures { rule_list result.0 ++ (rule_list result.1 ++ rule_list result.2) ≡ all_rules self }
     {

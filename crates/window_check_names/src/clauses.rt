@@ -4,7 +4,7 @@ ghost use Rattle.std.specs.Prelude.{◌≡◌, ◌+◌, ◌≤◌, ◌∷◌, []
 ghost use Rattle.os_ast.specs.Notes.Clauses.{parts_notes, part_notes, window_notes, shape_of};
 ghost use Rattle.os_ast.specs.Notes.Expressions.{index_notes};
 ghost use Rattle.os_ast.specs.Notes.Kinds.{Used};
-ghost use Rattle.os_ast.specs.ClauseParts.{Item, Private, parts, parts_of};
+ghost use Rattle.os_ast.specs.ClauseParts.{Item, Private, parts, clause_parts};
 ghost use Rattle.os_ast.specs.Views.{clause_tree, clause_kind_tree, clause_item_tree, join_tree, index_tree, target_tree};
 ghost use Rattle.os_ast.specs.declared.names.Use.TheVariants as usage;
 ghost use Rattle.window_check_names.specs.Findings.{noted};
@@ -57,7 +57,7 @@ fn window(
     }
 }
 
-/// An item.
+/// Judges an item of a clause, and lists it.
 #[tactic(auto, using(crate::proofs::Lists::lists))]
 fn item(
     scopes: &Scopes,
@@ -93,7 +93,7 @@ fn items(
     Ok(())
 }
 
-/// A `firstprivate` name.
+/// Judges a name of `firstprivate`, and lists it.
 fn private(
     scopes: &Scopes,
     found: &mut Found,
@@ -125,16 +125,16 @@ fn privates(
     Ok(())
 }
 
-/// A clause.
+/// Judges a clause, and lists what it names.
 fn clause(
     scopes: &Scopes,
     found: &mut Found,
     listed: &mut Listed,
     clause: &Clause,
 ) -> Result<(), Memory>
-    requires { length listed.old.items + length (parts_of (clause_kind_tree clause.now.kind)) ≤ room_end }
-    ensures found { OnOk result (found.new ≡ noted found.old (listed_notes scopes.now listed.old (parts_of (clause_kind_tree clause.now.kind)))) }
-    ensures listed { OnOk result (listed.new ≡ after_parts scopes.now listed.old (parts_of (clause_kind_tree clause.now.kind))) }
+    requires { length listed.old.items + length (clause_parts (clause_kind_tree clause.now.kind)) ≤ room_end }
+    ensures found { OnOk result (found.new ≡ noted found.old (listed_notes scopes.now listed.old (clause_parts (clause_kind_tree clause.now.kind)))) }
+    ensures listed { OnOk result (listed.new ≡ after_parts scopes.now listed.old (clause_parts (clause_kind_tree clause.now.kind))) }
 {
     match &clause.kind {
         ClauseKind::Input(list) => items(scopes, found, listed, Direction::Reads, list),

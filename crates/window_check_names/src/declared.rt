@@ -73,7 +73,7 @@ impl Declared {
         Ok(())
     }
 
-    /// Takes the innermost declarations away until there are so many.
+    /// Takes the innermost declarations away until `len` are left.
     pub(crate) fn drop_to(&mut self, len: usize)
         ensures { self.new ≡ drop (length self.old - len) self.old }
     {

@@ -1,11 +1,11 @@
 ghost use Rattle.std.specs.Prelude.{◌≡◌};
-ghost use Rattle.os_ast.specs.Meanings.{meaning};
+ghost use Rattle.os_ast.specs.Meanings.{what_declared};
 
 use os_ast::{Entity, What};
 
 /// What a declaration means where its function, task or `main` names it.
 pub fn meaning(entity: Entity) -> What
-    ensures { result ≡ meaning entity }
+    ensures { result ≡ what_declared entity }
 {
     match entity {
         Entity::Constant(value) => What::Constant(value),

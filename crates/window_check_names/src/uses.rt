@@ -63,7 +63,7 @@ fn value_rules(shape: Shape, entity: Entity) -> BrokenRules
     }
 }
 
-/// Those that it violates as the target of a change.
+/// The rules that a name violates as the target of a change.
 fn target_rules(shape: Shape, entity: Entity) -> BrokenRules
     ensures { all_rules result ≡ target_rules shape entity }
 {
@@ -81,7 +81,7 @@ fn target_rules(shape: Shape, entity: Entity) -> BrokenRules
     }
 }
 
-/// Those that it violates where neither a stream nor a window may stand, nor anything else of its kind.
+/// The rules that a name violates where neither a stream nor a window may stand, nor anything else of its kind.
 fn misplaced(entity: Entity) -> BrokenRules
     ensures { all_rules result ≡ misplaced entity }
 {
@@ -94,7 +94,7 @@ fn misplaced(entity: Entity) -> BrokenRules
     }
 }
 
-/// Those that a called name violates, by its number and how many arguments there are.
+/// The rules that a called name violates, by its number and how many arguments there are.
 #[tactic(auto, using(crate::proofs::Noted::collecting))]
 fn call_rules(id: u32, args: usize, entity: Entity) -> BrokenRules
     ensures { all_rules result ≡ call_rules id args entity }
@@ -131,7 +131,7 @@ fn stream_rules(direction: Direction, shape: Shape, entity: Entity) -> BrokenRul
     }
 }
 
-/// Those that it violates behind the `>>` or `<<` of an item.
+/// The rules that a name violates behind the `>>` or `<<` of an item.
 fn item_rules(shape: Shape, entity: Entity) -> BrokenRules
     ensures { all_rules result ≡ item_rules shape entity }
 {
@@ -142,7 +142,7 @@ fn item_rules(shape: Shape, entity: Entity) -> BrokenRules
     }
 }
 
-/// Those that a `firstprivate` name violates.
+/// The rules that a `firstprivate` name violates.
 fn private_rules(entity: Entity) -> BrokenRules
     ensures { all_rules result ≡ private_rules entity }
 {
@@ -152,7 +152,7 @@ fn private_rules(entity: Entity) -> BrokenRules
     }
 }
 
-/// Those that a name with an index or without violates, by where it stands.
+/// The rules that a name with an index or without violates, by where it stands.
 fn role_rules(role: Role, shape: Shape, entity: Entity) -> BrokenRules
     ensures { all_rules result ≡ role_rules role shape entity }
 {
@@ -163,7 +163,7 @@ fn role_rules(role: Role, shape: Shape, entity: Entity) -> BrokenRules
     }
 }
 
-/// Those that a used name violates, by its number.
+/// The rules that a used name violates, by its number.
 fn use_rules(id: u32, usage: Use, entity: Entity) -> BrokenRules
     ensures { all_rules result ≡ use_rules id usage entity }
 {

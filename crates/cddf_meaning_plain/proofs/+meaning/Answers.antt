@@ -7,7 +7,7 @@ use Rattle.os_ast.specs.declared.pragma.ClauseKind.{ClauseKind}
 use Rattle.cddf_meaning.specs.Answers.{Answer, Left, left}
 use Rattle.cddf_meaning.specs.File.{type_in}
 use Rattle.cddf_meaning.specs.Run.{run, run_step, run_test}
-use Rattle.cddf_meaning_plain_state.specs.Stops.{Gives, Leaves, Stops}
+use Rattle.cddf_meaning_plain_state.specs.Stops.{Evaluates, Leaves, Stops}
 use Rattle.cddf_meaning.specs.Streams.{items_claims}
 use Rattle.cddf_meaning.specs.Value.{chained, linked, value}
 use Rattle.std.proofs.lemmas.Result.{err_from_is_err_and}
@@ -40,7 +40,7 @@ pub value::value-returns-in-Call-clause-gives : goal.value::value-returns-in-Cal
 value::value-returns-in-Call-clause-gives t c =
     let tree = ap expr_tree c.in-Call.is ∙ expr_tree-call c.in-Call.call in
     let P : ast.ExprTree → Type 0 = λ e.
-    Gives c.called.result c.called.new.turns (value (file_of (map item_tree c.args.file.now)) e c.args.state.now c.args.turns.now) in
+    Evaluates c.called.result c.called.new.turns (value (file_of (map item_tree c.args.file.now)) e c.args.state.now c.args.turns.now) in
     subst P (sym tree) c.called.ensures.gives
 
 pub value::value-returns-in_ok-number-in-Chain-clause-gives : goal.value::value-returns-in_ok-number-in-Chain-clause-gives
@@ -50,7 +50,7 @@ value::value-returns-in_ok-number-in-Chain-clause-gives t c =
     let s = c.args.state.now in
     let links = links_tree c.in-Chain.links in
     let rest = c.value-in-Chain.new.turns in
-    let P : ast.ExprTree → Type 0 = λ e. Gives c.chained.result c.chained.new.turns (value file e s c.args.turns.now) in
+    let P : ast.ExprTree → Type 0 = λ e. Evaluates c.chained.result c.chained.new.turns (value file e s c.args.turns.now) in
     let number = c.in_ok-number-in-Chain.number in
     let unsigned = c.type_of-unsigned-in-Chain.result in
     let same : c.in-Chain.first.value ≡ c.deref-in-Chain.result.now = first_of (search (rules, c.deref-in-Chain.ensures), cc) in
@@ -59,8 +59,8 @@ value::value-returns-in_ok-number-in-Chain-clause-gives t c =
     c.type_of-unsigned-in-Chain.ensures ∙ ap (λ e. type_in file s (expr_tree e)) (sym again) in
     let next : Left ℤ → Answer (Left ℤ) = chained file links s (type_in file s (expr_tree c.in-Chain.first.value)) in
     let fits : to_z w32 (of_z w32 number) ≡ number = first_of (search rules, grind (arith, rules)) in
-    let Q : ℤ → Type 0 = λ v. Gives c.chained.result c.chained.new.turns (chained file links s unsigned (left v rest)) in
-    let R : Bool → Type 0 = λ u. Gives c.chained.result c.chained.new.turns (chained file links s u (left number rest)) in
+    let Q : ℤ → Type 0 = λ v. Evaluates c.chained.result c.chained.new.turns (chained file links s unsigned (left v rest)) in
+    let R : Bool → Type 0 = λ u. Evaluates c.chained.result c.chained.new.turns (chained file links s u (left number rest)) in
     subst P (sym tree)
     (then-gives c.chained.result c.chained.new.turns _ _ next
     (ap (λ e. value file (expr_tree e) s c.args.turns.now) same ∙ c.in_ok-number-in-Chain.ensures.gives)
@@ -73,8 +73,8 @@ value::linked-returns-then-not-needs_right-clause-gives t c =
     let turns = c.args.turns.now in
     let right : ℕ → Answer (Left ℤ) = value (file_of (map item_tree c.args.file.now)) (expr_tree link.right) c.args.state.now in
     let fits : to_z w32 (of_z w32 c.args.left) ≡ c.args.left = first_of (search rules, grind (arith, rules)) in
-    let P : ℤ → Type 0 = λ a. Gives c.link_value.result turns (linked link.op link.mark.line types.left types.right (left a turns) right) in
-    let Q : Answer (Left ℤ) → Type 0 = λ x. Gives c.link_value.result turns x in
+    let P : ℤ → Type 0 = λ a. Evaluates c.link_value.result turns (linked link.op link.mark.line types.left types.right (left a turns) right) in
+    let Q : Answer (Left ℤ) → Type 0 = λ x. Evaluates c.link_value.result turns x in
     subst P fits
     (subst Q (sym (c.needs_right.ensures.not_needed c.if-not-needs_right.true link.mark.line turns types.left types.right right (pos 0)))
     (c.link_value.ensures turns))
@@ -108,9 +108,9 @@ value::linked-returns-clause-gives t c =
     let rest = c.value.new.turns in
     let number = c.in_ok-right.right in
     let same : to_z w32 (of_z w32 number) ≡ number = first_of (search rules, grind (arith, rules)) in
-    let P : ℤ → Type 0 = λ a. Gives c.link_value-2.result rest (linked link.op link.mark.line types.left types.right (left a turns) right) in
-    let Q : Answer (Left ℤ) → Type 0 = λ x. Gives c.link_value-2.result rest x in
-    let R : ℤ → Type 0 = λ v. Gives c.link_value-2.result rest (next (left v rest)) in
+    let P : ℤ → Type 0 = λ a. Evaluates c.link_value-2.result rest (linked link.op link.mark.line types.left types.right (left a turns) right) in
+    let Q : Answer (Left ℤ) → Type 0 = λ x. Evaluates c.link_value-2.result rest x in
+    let R : ℤ → Type 0 = λ v. Evaluates c.link_value-2.result rest (next (left v rest)) in
     subst P fits
     (subst Q (sym (c.needs_right.ensures.needed c.if-not-needs_right.false link.mark.line turns types.left types.right right))
     (then-gives c.link_value-2.result rest (right turns) (left number rest) next c.in_ok-right.ensures.gives
@@ -213,10 +213,10 @@ run::repeat-loop-alloc-preserved t c =
     let nonzero = not-zero test.0 c.in_ok-tested.field-0 test.2 c.if-not-branch.false in
     let stepped = ap (λ o. run_step u.file (option_map change_tree (option_copied o)) c.stmt.new.state c.stmt.new.turns) (sym c.in-Ok.ensures.step)
     ∙ c.in_ok-stepped-in-Ok.ensures.goes_on in
-    let kept = loop-kept c.loop-alloc.invariant.0 c.loop-alloc.turns c.take_unit.new.turns c.tested.new.turns c.stmt.new.turns
+    let kept = loop-kept c.loop-alloc.invariant.0 c.loop-alloc.turns c.take_turn.new.turns c.tested.new.turns c.stmt.new.turns
     c.stepped.new.turns (run_test u.file (option_map expr_tree (option_copied c.args.test))) (run u (stmt_tree c.args.body.now))
     (run_step u.file (option_map change_tree (option_copied c.args.step))) c.loop-alloc.state c.stmt.new.state c.stepped.new.state
-    test.0 c.in_ok-flow.flow _ c.loop-alloc.invariant.1 c.in_ok-take_unit.ensures.taken c.loop-alloc.invariant.2 test.1 nonzero
+    test.0 c.in_ok-flow.flow _ c.loop-alloc.invariant.1 c.in_ok-take_turn.ensures.taken c.loop-alloc.invariant.2 test.1 nonzero
     c.in_ok-flow.ensures.leaves c.in-Ok.ensures.goes_on stepped
     (omega (arith, c.in_ok-stepped-in-Ok.ensures.fewer, c.in_ok-flow.ensures.fewer, c.in_ok-tested.ensures.fewer)) in (
       kept.0,
@@ -228,7 +228,7 @@ run::repeat-loop-alloc-preserved t c =
         c.in_ok-stepped-in-Ok.ensures.fewer,
         c.in_ok-flow.ensures.fewer,
         c.in_ok-tested.ensures.fewer,
-        c.in_ok-take_unit.ensures.fewer,
+        c.in_ok-take_turn.ensures.fewer,
       ),
     )
 
@@ -237,10 +237,10 @@ run::repeat-returns-in-Err-clause-leaves t c =
     let u = around_of c.args.around.now in
     let test = c.in_ok-tested.ensures.gives in
     let nonzero = not-zero test.0 c.in_ok-tested.field-0 test.2 c.if-not-branch.false in
-    loop-left c.loop-alloc.invariant.0 c.loop-alloc.turns c.take_unit.new.turns c.tested.new.turns c.stmt.new.turns
+    loop-left c.loop-alloc.invariant.0 c.loop-alloc.turns c.take_turn.new.turns c.tested.new.turns c.stmt.new.turns
     (run_test u.file (option_map expr_tree (option_copied c.args.test))) (run u (stmt_tree c.args.body.now))
     (run_step u.file (option_map change_tree (option_copied c.args.step))) c.loop-alloc.state c.stmt.new.state
-    test.0 c.in_ok-flow.flow c.in-Err.left _ c.loop-alloc.invariant.1 c.in_ok-take_unit.ensures.taken c.loop-alloc.invariant.2 test.1 nonzero
+    test.0 c.in_ok-flow.flow c.in-Err.left _ c.loop-alloc.invariant.1 c.in_ok-take_turn.ensures.taken c.loop-alloc.invariant.2 test.1 nonzero
     c.in_ok-flow.ensures.leaves c.in-Err.ensures.leaves
 
 pub functions::call_function-returns-in-None-clause-gives : goal.functions::call_function-returns-in-None-clause-gives
@@ -260,20 +260,20 @@ functions::call_function-returns-in-Some-clause-gives t c =
     rw (calls-some c.args.file.now c.args.place c.in-Some.function.now c.args.args.now c.args.turns.now c.in-Some.ensures.function)
     c.entered.ensures.gives
 
-pub functions::entered-returns-in_err-take_unit-clause-gives : goal.functions::entered-returns-in_err-take_unit-clause-gives
-functions::entered-returns-in_err-take_unit-clause-gives t c =
+pub functions::entered-returns-in_err-take_turn-clause-gives : goal.functions::entered-returns-in_err-take_turn-clause-gives
+functions::entered-returns-in_err-take_turn-clause-gives t c =
     let p = err_from_is_err_and c.from_residual.result c.from_residual.ensures.1 in
     rw (p.1, p.2)
-    (stops-over c.in_err-take_unit.field-0.0 _ c.in_err-take_unit.ensures.none.0
+    (stops-over c.in_err-take_turn.field-0.0 _ c.in_err-take_turn.ensures.none.0
     (call-zero (file_of (map item_tree c.args.file.now)) (function_tree c.args.function.now) c.args.args.now c.args.turns.now
-    c.in_err-take_unit.ensures.none.1))
+    c.in_err-take_turn.ensures.none.1))
 
 pub functions::entered-returns-in_err-flow-clause-gives : goal.functions::entered-returns-in_err-flow-clause-gives
 functions::entered-returns-in_err-flow-clause-gives t c =
     let state = c.in_ok-state.ensures
     ∙ ap (λ ns. state_of (bind_params ns c.args.args.now []) []) c.list.ensures in
-    let runs = call-one (file_of (map item_tree c.args.file.now)) c.args.function.now c.args.args.now c.args.turns.now c.take_unit.new.turns
-    c.in_ok-state.state c.in_ok-take_unit.ensures.taken state in
+    let runs = call-one (file_of (map item_tree c.args.file.now)) c.args.function.now c.args.args.now c.args.turns.now c.take_turn.new.turns
+    c.in_ok-state.state c.in_ok-take_turn.ensures.taken state in
     let p = err_from_is_err_and c.from_residual-in_err-flow.result c.from_residual-in_err-flow.ensures.1 in
     rw (p.1, p.2) (stops-as c.in_err-flow.field-0.0 _ _ runs (stops-returned c.in_err-flow.field-0.0 _ _ c.in_err-flow.ensures.leaves))
 
@@ -281,8 +281,8 @@ pub functions::entered-returns-clause-gives : goal.functions::entered-returns-cl
 functions::entered-returns-clause-gives t c =
     let state = c.in_ok-state.ensures
     ∙ ap (λ ns. state_of (bind_params ns c.args.args.now []) []) c.list.ensures in
-    let runs = call-one (file_of (map item_tree c.args.file.now)) c.args.function.now c.args.args.now c.args.turns.now c.take_unit.new.turns
-    c.in_ok-state.state c.in_ok-take_unit.ensures.taken state in
+    let runs = call-one (file_of (map item_tree c.args.file.now)) c.args.function.now c.args.args.now c.args.turns.now c.take_turn.new.turns
+    c.in_ok-state.state c.in_ok-take_turn.ensures.taken state in
     let given : result_of c.in_ok-flow.flow ≡ to_z w32 (of_z w32 c.result_of.result) = search (rules, c.result_of.ensures) in
     runs ∙ ap returned c.in_ok-flow.ensures.leaves ∙ ap (λ v. Ok (left v c.stmts.new.turns)) given
 
@@ -290,6 +290,6 @@ pub streams::clause_claims-returns-in-Firstprivate-clause-adds : goal.streams::c
 streams::clause_claims-returns-in-Firstprivate-clause-adds t c =
     let file = file_of (map item_tree c.args.file.now) in
     let P : ClauseKind → Type 0 = λ k.
-    behind c.args.claims.now (items_claims file (clauses.parts_of (clause_kind_tree k)) c.args.state.now c.args.turns.now)
+    behind c.args.claims.now (items_claims file (clauses.clause_parts (clause_kind_tree k)) c.args.state.now c.args.turns.now)
     ≡ Ok (left c.args.claims.now c.args.turns.now) in
     subst P (sym c.in-Firstprivate.is) (privates-claim file c.in-Firstprivate.field-0 c.args.state.now c.args.turns.now c.args.claims.now)

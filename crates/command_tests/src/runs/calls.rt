@@ -19,7 +19,7 @@ pub(super) const ALL: Taking = Taking {
     failing: None,
 };
 
-/// Takes so many bytes a call, until the call with this number fails.
+/// Takes at most `most` bytes a call, until the call numbered `call` fails.
 pub(super) fn failing(most: u32, call: u64) -> Taking {
     Taking {
         room: 64,

@@ -18,7 +18,7 @@ const REPORT: &str = "control done\noutput 8 of 8\n";
 /// The lines of `gen 1 2`.
 const LINES: &str = "seed 1 blocks 2\ninput 8 sum 1363\noutput 8 sum 1172\nstatus 0\n";
 
-/// Takes so many bytes in all.
+/// Takes at most `$room` bytes in all.
 macro_rules! narrow {
     ($room:expr) => {
         Taking {
@@ -29,7 +29,7 @@ macro_rules! narrow {
     };
 }
 
-/// Takes so many bytes a call, until the call with this number fails.
+/// Takes at most `$most` bytes a call, until the call numbered `$call` fails.
 macro_rules! breaking {
     ($most:expr, $call:expr) => {
         Taking {
@@ -62,7 +62,7 @@ static ROWS: [Row; 9] = [
     (ALL, narrow!(13), 8, 13, 6),
 ];
 
-/// Asks that so many bytes of the output and of the report are taken where the blocks of 4 are inverted over sinks that take so.
+/// Asks that a run which inverts blocks of 4 over the sinks of a row delivers as many bytes of the output and of the report as the row says.
 fn delivers<R: Threads + Sync + AllocGlobal + Abort>(rt: &R, row: Row) {
     let (out, told, bytes, lines, status) = row;
     let left = call(rt, &WORDS, INVERT.as_bytes(), &INPUT, None, out, told);
@@ -98,7 +98,7 @@ static LINES_TAKEN: [(Taking, usize); 6] = [
     (breaking!(1, 16), 16),
 ];
 
-/// Asks that so many bytes of the lines are taken.
+/// Asks that the output of each row takes as many bytes of the lines as the row says.
 fn lines_are_cut<R: Threads + Sync + AllocGlobal + Abort>(rt: &R, rows: &[(Taking, usize)]) {
     for (out, taken) in rows {
         let left = call(rt, &["gen", "1", "2"], &[], &[], None, *out, ALL);

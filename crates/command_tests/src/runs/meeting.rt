@@ -6,7 +6,7 @@ use std::sync::atomic::{AtomicU32, AtomicU64, Ordering};
 /// The most turns for which a worker is held.
 const TURNS: u32 = 500_000_000;
 
-/// Counts the workers that came, each once, and holds each of them until so many did.
+/// Counts the workers that came, each once, and holds each of them until `awaited` did.
 #[derive(Drop)]
 pub(super) struct Meeting {
     awaited: u32,
@@ -16,7 +16,7 @@ pub(super) struct Meeting {
 }
 
 impl Meeting {
-    /// A gate that waits for so many workers.
+    /// A gate that waits for `awaited` workers.
     pub(super) fn of(awaited: u32) -> Meeting {
         Meeting {
             awaited,

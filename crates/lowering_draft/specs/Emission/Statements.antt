@@ -46,7 +46,7 @@ abbrev pub if_else_code : Exits → Option Label → (end otherwise : Label) →
 if_else_code x next end otherwise condition a b draft =
     closed next end (b x next (with_place (a x (Some end) (condition otherwise draft)) otherwise))
 
--- A loop begins with its unit and its test.
+-- A loop begins with its turn and its test.
 abbrev pub begin_code : (again : Label) → (test : Emission) → Emission
 begin_code again test draft = test (with_instr (with_place draft again) Turn)
 

@@ -34,7 +34,7 @@ items_code tells [] draft = draft
 items_code tells (Private n ∷ ps) draft = items_code tells ps draft
 items_code tells (Item d i ∷ ps) draft = items_code tells ps (item_code tells d i draft)
 
--- a tick: the stream's index, the amount, its check, its unit, the move
+-- a tick: the stream's index, the amount, its check, its turn, the move
 abbrev pub tick_code : (ℕ → Resolved) → tree.TargetTree → (line : ℕ) → tree.ExprTree → Emission
 tick_code tells t line e draft =
     with_instrs (expr_code tells e (stream_code tells t draft))

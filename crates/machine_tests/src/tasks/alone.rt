@@ -8,7 +8,7 @@ ghost use Rattle.machine_tests.specs.Written.{alone};
 
 use crate::task_runs::{Ran, run_twice};
 use flow_core_laws::Claim;
-use os_code::{Binary, Instr, SiteItem, Unit};
+use os_code::{Binary, CodeUnit, Instr, SiteItem};
 use os_io::Memory;
 use std::alloc::Global;
 
@@ -89,19 +89,19 @@ pub(crate) fn run_alone(
     let instrs = with_behind(alloc, body)?;
     let behind = body.len() as u32;
     let units = [
-        Unit {
+        CodeUnit {
             start: behind,
             args: 1,
             slots: 2,
             stack: 3,
         },
-        Unit {
+        CodeUnit {
             start: 0,
             args: 2,
             slots: 6,
             stack: behind.min(3),
         },
-        Unit {
+        CodeUnit {
             start: behind + 9,
             args: 1,
             slots: 9,

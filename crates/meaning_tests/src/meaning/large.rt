@@ -45,7 +45,7 @@ static KERNELS: [(&str, usize); 5] = [
     ),
 ];
 
-/// Adds so many bytes, from one on.
+/// Adds `count` bytes, the first of them `first`, and answers which one would come next.
 fn push_bytes(rt: &impl Abort, inputs: &mut Vec<i32>, first: u8, count: u32) -> u8 {
     let mut next = first;
     for _ in 0..count {
@@ -131,14 +131,14 @@ fn done_of(rt: &impl Abort, alloc: Global, program: &Program) -> Option<usize> {
     done.then_some(activations.len())
 }
 
-/// A kernel has so many activations over a thousand bytes, and all are done.
+/// A kernel has `count` activations over a thousand bytes, and all are done.
 fn kernel_is_done(rt: &impl Abort, alloc: Global, text: &str, count: usize) {
     let checked = accepted(rt, alloc, text);
     let found = done_of(rt, alloc, &checked.program);
     assert!(rt; found == Some(count), "{text}");
 }
 
-/// Each kernel has so many activations over a thousand bytes, and all are done.
+/// Each kernel has as many activations over a thousand bytes as stand beside it, and all are done.
 fn kernels_are_done(rt: &impl Abort, alloc: Global, kernels: &[(&str, usize)]) {
     for (text, count) in kernels {
         kernel_is_done(rt, alloc, *text, *count);

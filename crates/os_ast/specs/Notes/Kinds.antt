@@ -17,7 +17,7 @@ pub data Note : Type 0 where
   -- the name of a declarator
   Declared : Scope → DeclaratorTree → Note
   -- the name of a parameter
-  Given : Scope → Param → Note
+  Parameter : Scope → Param → Note
   -- the name of a constant or of a function, where it is declared
   Global : Scope → Name → Note
   -- `break` or `continue`
@@ -36,7 +36,7 @@ abbrev pub mark_of : Note → Mark
 mark_of (Used s n u) = n.mark
 mark_of (Sized s n) = n.mark
 mark_of (Declared s d) = d.name.mark
-mark_of (Given s p) = p.name.mark
+mark_of (Parameter s p) = p.name.mark
 mark_of (Global s n) = n.mark
 mark_of (Left s m) = m
 mark_of (Returned s m) = m

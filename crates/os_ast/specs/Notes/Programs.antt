@@ -2,7 +2,7 @@
 use Rattle.std.specs.Prelude.{ℕ, ◌+◌, ◌==◌, false, if◌then◌else◌, List, [], ◌∷◌, ◌++◌, length, fold}
 use Rattle.os_ast.specs.Names.{Scope, declare, flagged, typed, enter, in_unit, after_unit, constant_value, main_id, osin_id, osout_id, osin_len_id}
 use Rattle.os_ast.specs.Notes.Declarators.{scalar_entity}
-use Rattle.os_ast.specs.Notes.Kinds.{Note, Given, Global}
+use Rattle.os_ast.specs.Notes.Kinds.{Note, Parameter, Global}
 use Rattle.os_ast.specs.Notes.Statements.{after_stmts, stmts_notes}
 use Rattle.os_ast.specs.Trees as tree
 use Rattle.os_ast.specs.declared.program.Param.{Param}
@@ -38,7 +38,7 @@ after_params s ps = fold after_param s ps
 
 abbrev pub params_notes : Scope → List Param → List Note
 params_notes s [] = []
-params_notes s (p ∷ ps) = Given s p ∷ params_notes (after_param s p) ps
+params_notes s (p ∷ ps) = Parameter s p ∷ params_notes (after_param s p) ps
 
 -- A function is in scope from its body's end.
 abbrev pub after_function : Scope → Scope → tree.FunctionTree → Scope
@@ -47,6 +47,11 @@ after_function s inner f = let after = after_unit s inner in
 
 abbrev pub in_body : Scope → tree.FunctionTree → Scope
 in_body s f = after_params (in_function s f.name.id) (param_list f.params)
+
+-- the name that a constant or a function is declared by
+abbrev pub global_id : tree.ItemTree → ℕ
+global_id (tree.Constant c) = c.name.id
+global_id (tree.Function f) = f.name.id
 
 abbrev pub after_item : Scope → tree.ItemTree → Scope
 after_item s (tree.Constant c) = declare (typed c.ty s) c.name.id (entity.Constant (constant_value c))

@@ -25,7 +25,7 @@ impl Counts {
         }
     }
 
-    /// Whether so many jobs began, and never too many lines were given.
+    /// Whether `jobs` jobs began, and never too many lines were given.
     pub(super) fn were_in_bounds(&self, jobs: u32) -> bool {
         self.jobs.load(Ordering::SeqCst) == jobs && !self.too_far.load(Ordering::SeqCst)
     }
@@ -43,7 +43,7 @@ impl Gate for Counts {
 /// What each read gives.
 const LINE: &[u8] = b"run first.c in.bin\n";
 
-/// A file of so many jobs that gives one line a read, whatever its name.
+/// A file of which `left` jobs are still to be given, one line a read, whatever its name.
 #[derive(Drop)]
 pub(super) struct Lines<'c> {
     counts: &'c Counts,

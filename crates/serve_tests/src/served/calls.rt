@@ -68,7 +68,7 @@ pub(super) fn serving(rt: &impl Abort, alloc: Global) -> [String; 2] {
     ]
 }
 
-/// A sink that takes so many bytes in all, and so many in a call.
+/// A sink that takes at most `room` bytes in all, and at most `most` in a call.
 pub(super) fn sink(rt: &impl Abort, alloc: Global, room: u32, most: u32) -> MemSink {
     MemSink::new(alloc, room, most).expect(rt, "memory")
 }

@@ -12,7 +12,7 @@ const ANSWERS: &[u8] =
 job 1 status 2 out 0 report 6\nusage\n\
 job 2 status 0 out 4 report 27\n\x04\x03\x02\x01control done\noutput 4 of 4\n";
 
-/// Asks that an output took so many bytes of the answers, and no more.
+/// Asks that an output took `taken` bytes of the answers, and no more.
 fn takes<R: Threads + Sync + AllocGlobal + Abort>(rt: &R, out: MemSink, taken: usize) {
     let jobs = jobs_of(rt, rt.alloc(), JOBS);
     let left = serve_to(rt, jobs, out);
@@ -24,7 +24,7 @@ fn takes<R: Threads + Sync + AllocGlobal + Abort>(rt: &R, out: MemSink, taken: u
 /// Where each answer ends, a byte before that and a byte behind it; and where all were taken.
 static ROOMS: [u32; 10] = [0, 1, 61, 62, 63, 97, 98, 99, 159, 160];
 
-/// Asks that outputs which take so many bytes in all took just these.
+/// Asks that an output with each of these rooms took as many bytes as it has room for.
 fn are_cut<R: Threads + Sync + AllocGlobal + Abort>(rt: &R, rooms: &[u32]) {
     for room in rooms {
         let out = sink(rt, rt.alloc(), *room, 7);
@@ -51,7 +51,7 @@ static BREAKS: [(u64, usize); 9] = [
     (8, 160),
 ];
 
-/// Asks that outputs of which a write fails took so many bytes before.
+/// Asks that an output of which a write fails took before it as many bytes as the row of that write says.
 fn break_off<R: Threads + Sync + AllocGlobal + Abort>(rt: &R, rows: &[(u64, usize)]) {
     for (write, taken) in rows {
         let mut out = sink(rt, rt.alloc(), 1000, 1000);

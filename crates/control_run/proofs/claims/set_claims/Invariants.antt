@@ -1,5 +1,6 @@
 use Rattle.std.proofs.Common.{◌≡◌, ◌*◌, ◌≤◌, length, take, drop}
-use Rattle.os_code.specs.Machine.{spawned_claims, horizon_sum}
+use Rattle.flow_core_laws.specs.Window.{horizon_sum}
+use Rattle.os_code.specs.Machine.{spawned_claims}
 use Rattle.control_run.proofs.Joining.{joined}
 use Rattle.control_run.proofs.claims.set_claims.Given as goal
 

@@ -4,7 +4,7 @@ use Rattle.epoch_run_shares.specs.Positions.{HavePassed}
 use Rattle.epoch_run_shares.specs.Running.{HaveRun}
 use Rattle.epoch_run_shares.proofs.running.run_all.Given as goal
 
--- so many of them have run
+-- the activations before that of `activation-index` have run
 abbrev pub invariant-loop-activation : goal.invariant-loop-activation
 invariant-loop-activation l = record {
   ran : HaveRun l.code (take l.activation-index l.activations) l.input l.budget l.fn.positions l.fn.apart l.apart;

@@ -7,7 +7,7 @@ use Rattle.flow_core_laws.specs.Window.{windows}
 use Rattle.flow_core_laws.specs.Place.{Place, input_places}
 use Rattle.flow_core_laws.specs.Round.{meaning, rounds, round}
 use Rattle.flow_core_laws.specs.Streams.{output_count, stream_source, stream_element, stream_meaning}
-use Rattle.flow_core_epochs.specs.Epoch.{number_in, Kept, IsKeptFor, StandsForEpoch, AreChosen, epoch_source, value_kept}
+use Rattle.flow_core_epochs.specs.Epoch.{number_among, Kept, IsKeptFor, StandsForEpoch, AreChosen, epoch_source, value_kept}
 use Rattle.flow_core_laws.specs.declared.elem.Elem.TheVariants.{Poison}
 use Rattle.flow_core_laws.specs.declared.task_end.TaskEnd.TheVariants.{Done, Trapped}
 use Rattle.flow_core_laws.specs.Plans.{cell_source, frame_at, plan_reads}
@@ -50,7 +50,7 @@ chosen = record { are_open = wait; ascend = ascend; others_get_none = others }
     ascend f (suc (suc g)) a b lt a_at b_at = absurd (cc)
     ascend (suc (suc f)) g a b lt a_at b_at = absurd (cc)
 
-    others : (a : ℕ) → a < length (before ++ new) → outcome_at (stream_meaning before [] (body (Trapped 2 5) Done)) a ≡ None → number_in (1 ∷ 2 ∷ []) a ≡ None → outcome_at (stream_meaning (before ++ new) [] (body (Trapped 2 5) Done)) a ≡ None
+    others : (a : ℕ) → a < length (before ++ new) → outcome_at (stream_meaning before [] (body (Trapped 2 5) Done)) a ≡ None → number_among (1 ∷ 2 ∷ []) a ≡ None → outcome_at (stream_meaning (before ++ new) [] (body (Trapped 2 5) Done)) a ≡ None
     others zero lt none out = absurd (cc)
     others (suc zero) lt none out = absurd (cc)
     others (suc (suc zero)) lt none out = absurd (cc)

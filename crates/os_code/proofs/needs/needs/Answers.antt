@@ -1,6 +1,6 @@
 use Rattle.std.proofs.Common.{◌≡◌, ℕ, ◌+◌, List, [], ◌∷◌, ◌++◌, length, arith, rules, sym, subst}
 use Rattle.os_code.specs.declared.needs.Need.{Need}
-use Rattle.os_code.specs.declared.unit.Unit.{Unit as CodeUnit}
+use Rattle.os_code.specs.declared.unit.CodeUnit.{CodeUnit}
 use Rattle.os_code.specs.NeedTables.{stack_in, slots_in, Tells, IsTop}
 use Rattle.os_code.proofs.Tables.{tells-push, top-pushed, largest-top}
 use Rattle.os_code.proofs.needs.needs.Goals as goal

@@ -1,6 +1,6 @@
 use Rattle.std.proofs.Common.{◌≡◌, ℕ, ◌+◌, length, get_or, arith, ap, subst}
 use Rattle.std.proofs.lemmas.Option.{slice_get-get_or}
-use Rattle.os_code.specs.declared.unit.Unit.{Unit as CodeUnit}
+use Rattle.os_code.specs.declared.unit.CodeUnit.{CodeUnit}
 use Rattle.os_code.specs.NeedTables.{LargestFrom}
 use Rattle.os_code.proofs.Tables.{is_row, stack-few, slots-few}
 use Rattle.os_code.proofs.needs.unit_need.Goals as goal

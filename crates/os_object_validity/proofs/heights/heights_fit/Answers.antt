@@ -1,7 +1,7 @@
 use Rattle.std.proofs.Common.{◌≡◌, ℕ, List, [], length, get_or, Option, sym, subst, ap, ◌∙◌, arith, rules}
 use Rattle.std.specs.Prelude.{slice_get}
 use Rattle.std.proofs.lemmas.Option.{slice_get_within, slice_get-get_or}
-use Rattle.os_code.specs.declared.unit.Unit.{Unit as CodeUnit}
+use Rattle.os_code.specs.declared.unit.CodeUnit.{CodeUnit}
 use Rattle.os_object_validity.specs.Tables.{IsEntry, IsExplored}
 use Rattle.os_object_validity.proofs.Exploring.{explored-pop, explored-all, popped, few_units}
 use Rattle.os_object_validity.proofs.heights.heights_fit.Goals as goal

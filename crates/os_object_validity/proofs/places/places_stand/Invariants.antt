@@ -1,5 +1,5 @@
 use Rattle.std.proofs.Common.{◌≡◌, ℕ, ◌<◌, Some}
-use Rattle.os_code.specs.declared.unit.Unit.{Unit as CodeUnit}
+use Rattle.os_code.specs.declared.unit.CodeUnit.{CodeUnit}
 use Rattle.os_code.specs.Parts.{unit_at}
 use Rattle.os_object_validity.specs.Tables.{UnitStands}
 use Rattle.os_object_validity.proofs.places.places_stand.Given as goal

@@ -1,5 +1,5 @@
 use Rattle.std.proofs.Common.{◌≡◌, ◌+◌, take, sum_by}
-use Rattle.os_code.specs.declared.unit.Unit.{Unit as CodeUnit}
+use Rattle.os_code.specs.declared.unit.CodeUnit.{CodeUnit}
 use Rattle.os_object_validity.proofs.sites.slots_few.Given as goal
 
 abbrev pub invariant-loop-unit : goal.invariant-loop-unit

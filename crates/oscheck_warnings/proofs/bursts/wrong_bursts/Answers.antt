@@ -4,13 +4,13 @@ use Rattle.os_ast.specs.declared.names.What.{What}
 use Rattle.os_ast.specs.Views.{program_tree}
 use Rattle.oscheck_warnings.specs.Bursts.{AreWrongBursts}
 use Rattle.oscheck_warnings.specs.Extents.{extents}
-use Rattle.oscheck_warnings.specs.Meanings.{meaning, meaning_at}
+use Rattle.oscheck_warnings.specs.Meanings.{what_at, meaning_at}
 use Rattle.oscheck_warnings.specs.declared.extent.Extent.{Extent}
 use Rattle.oscheck_warnings.proofs.bursts.wrong_bursts.Goals as goal
 
 pub returns : goal.returns
 returns c =
-    let means : meaning c.in_ok-meanings.meanings ≡ meaning_at c.args.names.now = fun_ext c.in_ok-meanings.ensures in
+    let means : what_at c.in_ok-meanings.meanings ≡ meaning_at c.args.names.now = fun_ext c.in_ok-meanings.ensures in
     let program = program_tree c.args.program.now in
     let list : c.as_slice-2.result.now ≡ extents (meaning_at c.args.names.now) program =
     c.as_slice-2.ensures ∙ c.in_ok-list.ensures ∙ ap (λ (m : ℕ → Option What). extents m program) means in

@@ -2,7 +2,7 @@ use Rattle.std.proofs.Common.{[], ◌∷◌, inl, inr, refl, subst}
 use Rattle.std.specs.Prelude.{string_bytes}
 use Rattle.std.proofs.lemmas.Result.{err_from_is_err_and}
 use Rattle.osrun_core_answer.specs.Explained.{Explains}
-use Rattle.osrun_core_jobs.specs.Status.{code_of}
+use Rattle.osrun_core_jobs.specs.Status.{status_code}
 use Rattle.osrun_core_answer.proofs.make_explain.make_explanation.Goals as goal
 
 pub returns-in_err-told : goal.returns-in_err-told
@@ -27,7 +27,7 @@ returns g c =
         is_program = made.is_program;
         control_is = ran.made_is;
         ends_are = ran.ends_are;
-        explains = subst (λ n. Explains ran.made.activations n ends.ends c.args.job.now.activation (string_bytes told.text) (code_of told.status)) ran.over
+        explains = subst (λ n. Explains ran.made.activations n ends.ends c.args.job.now.activation (string_bytes told.text) (status_code told.status)) ran.over
             (c.in_ok-told.ensures ran.made.activations ran.laid);
         report_is = refl;
       },

@@ -1,7 +1,7 @@
 use Rattle.std.proofs.Common.{refl, subst}
 use Rattle.osrun_core_answer.proofs.Answering.{answers_refused, answers_run, reported}
 use Rattle.osrun_core_jobs.specs.HandsOver.{HandsOver}
-use Rattle.osrun_core_jobs.specs.Jobs.{Run as RunRequest, job_of}
+use Rattle.osrun_core_jobs.specs.Jobs.{Run, job_of}
 use Rattle.osrun_core_answer.proofs.run_answer.answer_run.Goals as goal
 
 pub deliver-requires : goal.deliver-requires
@@ -17,4 +17,4 @@ returns-in-Ok g c =
 pub returns-in-Err : goal.returns-in-Err
 returns-in-Err g c =
     rw c.refuse.ensures.status (answers_refused g.F.Files c.args.files.now c.make_run.new.files g.O.Sink c.args.out.now c.args.out.now g.E.Sink c.args.report.now c.refuse.new.sink
-    c.never_usable_and_refused.ensures (RunRequest (job_of c.args.job.now)) c.requires.within c.in-Err.refusal c.in-Err.ensures c.refuse.ensures.tells refl)
+    c.never_usable_and_refused.ensures (Run (job_of c.args.job.now)) c.requires.within c.in-Err.refusal c.in-Err.ensures c.refuse.ensures.tells refl)

@@ -5,7 +5,7 @@ use Rattle.flow_core_laws.specs.Streams.{stream_meaning}
 use Rattle.flow_core_laws.specs.declared.control.Control.{Control}
 use Rattle.flow_core_laws.specs.declared.ends.Ends.{Ends}
 use Rattle.os_code.specs.Codes.{parts_of}
-use Rattle.os_code.specs.Outcomes.{control}
+use Rattle.os_code.specs.Outcomes.{main_control}
 use Rattle.osrun_core_run.proofs.FewWritten.{few_written}
 use Rattle.osrun_core_run.specs.RunOf.{IsRunOfCode}
 use Rattle.osrun_core_run.proofs.code_run.run_code_over.Goals as goal
@@ -17,7 +17,7 @@ pub returns : goal.returns
 returns g c =
     let code = parts_of c.args.code.now in
     let input = c.deref.result.now in
-    let made : Control = control code (length input) c.args.terms.control_budget in
+    let made : Control = main_control code (length input) c.args.terms.control_budget in
     let meant = c.in_ok-layout.ensures.ends in
     let state = stream_meaning made.activations input (frame_outcome code made.activations c.args.terms.task_budget) in
     let count = ap length c.in_ok-output.ensures.written ∙ ap (λ (e : Ends). length (written e.output)) meant in

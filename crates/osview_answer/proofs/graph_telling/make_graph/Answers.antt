@@ -4,7 +4,7 @@ use Rattle.osrun_core_answer.proofs.Loaded.{not_loaded, opened_so, was_read}
 use Rattle.osrun_core_answer.proofs.MadeRun.{both_read, cause_of_first, cause_of_second, input_file, may_open_first, may_open_second, memory_wanted, program_file}
 use Rattle.osrun_core_jobs.specs.Jobs.{job_of}
 use Rattle.osrun_core_jobs.specs.declared.subject.Subject.TheVariants as subjects
-use Rattle.osrun_core_jobs.specs.Status.{code_of}
+use Rattle.osrun_core_jobs.specs.Status.{status_code}
 use Rattle.osview_answer.specs.Drawn.{IsGraphOf}
 use Rattle.osview_answer.proofs.graph_telling.make_graph.Goals as goal
 
@@ -60,5 +60,5 @@ returns g c =
       input = input;
       read = both_read g.F.Files (program_file c.args.job.now.run.program.now) (input_file c.args.job.now.run.input.now) c.args.files.now between new text input was
           (was_read g.F.Files between new subjects.Input c.args.job.now.run.input.now input l.loaded tt l.opens l.no_fault l.holds l.may);
-      is_graph = subst (λ bytes. IsGraphOf job.task_budget job.control_budget text bytes c.args.job.now.view told.text.items (code_of told.status)) c.deref.ensures.value c.in_ok-told.ensures;
+      is_graph = subst (λ bytes. IsGraphOf job.task_budget job.control_budget text bytes c.args.job.now.view told.text.items (status_code told.status)) c.deref.ensures.value c.in_ok-told.ensures;
     }

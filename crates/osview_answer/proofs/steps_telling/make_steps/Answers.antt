@@ -4,7 +4,7 @@ use Rattle.os_ast.specs.Views.{program_tree}
 use Rattle.osrun_core_answer.proofs.Loaded.{not_loaded, opened_so, was_read}
 use Rattle.osrun_core_answer.proofs.MadeRun.{both_read, cause_of_first, cause_of_second, input_file, may_open_first, may_open_second, memory_wanted, program_file}
 use Rattle.osrun_core_jobs.specs.Jobs.{job_of}
-use Rattle.osrun_core_jobs.specs.Status.{code_of}
+use Rattle.osrun_core_jobs.specs.Status.{status_code}
 use Rattle.osrun_core_jobs.specs.declared.subject.Subject.TheVariants as subjects
 use Rattle.osview_answer.specs.Steps.{AreSteps}
 use Rattle.osview_answer.proofs.steps_telling.make_steps.Goals as goal
@@ -64,6 +64,6 @@ returns g c =
       are_steps = record {
         program = program_tree c.in_ok-source.source.checked.program;
         is_program = c.in_ok-source.ensures.1.accepted;
-        are_steps = subst (λ bytes. AreSteps job.task_budget job.control_budget (program_tree c.in_ok-source.source.checked.program) bytes told.text.items (code_of told.status)) c.deref.ensures.value c.in_ok-told.ensures;
+        are_steps = subst (λ bytes. AreSteps job.task_budget job.control_budget (program_tree c.in_ok-source.source.checked.program) bytes told.text.items (status_code told.status)) c.deref.ensures.value c.in_ok-told.ensures;
       };
     }

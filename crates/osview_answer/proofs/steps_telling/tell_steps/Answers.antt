@@ -72,7 +72,7 @@ returns g c =
     let meaning = stream_meaning activations input (body_at p activations budget) in
     let measured = c.in_ok-measured.measured in
     let main = c.in_ok-main.main in
-    let same_made : machine.control code (length input) c.args.terms.control_budget ≡ made =
+    let same_made : machine.main_control code (length input) c.args.terms.control_budget ≡ made =
     is_source.is_code.control (length input) c.args.terms.control_budget ∙ sym r.made_is in
     let created = c.in_ok-main.ensures.activations ∙ ap (λ (m : Control). m.activations) same_made in
     let same_acts : acts ≡ activations = c.as_slice-activations.ensures ∙ created in

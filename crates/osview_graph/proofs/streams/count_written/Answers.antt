@@ -7,7 +7,7 @@ use Rattle.stream_match_layouts.proofs.Pushing.{map-range-same, map-range-set}
 use Rattle.flow_core_laws.specs.Window.{windows}
 use Rattle.osview_graph.specs.Drawing.{run_of}
 use Rattle.osview_graph.specs.DrawnRun.{total}
-use Rattle.osview_graph.specs.Streams.{stream_at, window_at, written, written_by}
+use Rattle.osview_graph.specs.Streams.{stream_at, window_at, element_count, written_by}
 use Rattle.osview_graph.specs.Tables.{table}
 use Rattle.stream_match_layouts.specs.declared.span.Span.{Span}
 use Rattle.osview_graph.proofs.Spans.{count, few, given-le, span_is}
@@ -67,5 +67,5 @@ returns c =
     let reached : c.loop-span.span-index ≡ length (windows c.args.drawn.now.activations.now) =
     omega (arith, long, count c.args.drawn.now c.requires, c.loop-span-test.false, c.loop-span.auto.span-index-end) in
     c.set_row.ensures ∙ ap (λ (xs : List ℕ). slice_set xs 0 c.from-2.result) c.loop-span.invariant
-    ∙ with_input (total (stream_at run) amount c.loop-span.span-index) (written run) n c.from-2.result (sym c.from-2.ensures)
+    ∙ with_input (total (stream_at run) amount c.loop-span.span-index) (element_count run) n c.from-2.result (sym c.from-2.ensures)
     (λ j other. ap (λ (b : Bool). cond b run.input_len (total (stream_at run) amount (length (windows c.args.drawn.now.activations.now)) j)) (ne_eqb j 0 other) ∙ ap (λ (k : ℕ). total (stream_at run) amount k j) (sym reached))

@@ -1,7 +1,7 @@
 use Rattle.std.proofs.Common.{ℕ, ◌<◌, Some, ap, ◌∙◌, set, length, arith, refl, subst, sym}
 use Rattle.std.proofs.lemmas.List.{get_or_default, length-set}
 use Rattle.flow_core_laws.specs.Plans.{plan_meaning}
-use Rattle.flow_core.specs.Shows.{Gives, Reads}
+use Rattle.flow_core.specs.Shows.{HasOutcome, Reads}
 use Rattle.flow_core.proofs.Running.{IsRun-more, IsRun-fewer}
 use Rattle.osview_outcomes.proofs.Keeping.{kept_at_first, one_more}
 use Rattle.osview_outcomes.proofs.Ordering.{one_more_behind}
@@ -53,7 +53,7 @@ loop-turn-preserved g c =
       kept = one_more plan m board.ends.items _ c.index-frame.result.now e in_ends ends c.loop-turn.inputs _ c.loop-turn.outputs _ _ _ c.loop-turn.invariant.kept in_inputs in_outputs
           c.in_ok-keep.ensures c.in_ok-keep-2.ensures
           (subst (Reads plan m c.index-frame.result.now) (sym c.as_slice.ensures.value) c.in_ok-run_frame.ensures.reads)
-          (subst (Gives m c.index-frame.result.now e) (sym c.as_slice-in-loop-turn.ensures.value) gives);
+          (subst (HasOutcome m c.index-frame.result.now e) (sym c.as_slice-in-loop-turn.ensures.value) gives);
       behind = one_more_behind plan m board.waits.opened.items c.run_frame.new.board.waits.opened.items board c.loop-turn.turn c.requires.sound run lt refl opens.keeps c.loop-turn.invariant.behind;
       inputs = ap length c.in_ok-keep.ensures ∙ length-set c.loop-turn.inputs c.index-frame.result.now _ ∙ c.loop-turn.invariant.inputs;
       outputs = ap length c.in_ok-keep-2.ensures ∙ length-set c.loop-turn.outputs c.index-frame.result.now _ ∙ c.loop-turn.invariant.outputs;

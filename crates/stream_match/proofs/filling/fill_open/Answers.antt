@@ -12,9 +12,9 @@ returns-clause-cells c =
     let old = c.args.cells.now in
     let input = c.args.input.now in
     c.in_ok-fill_empty-2.ensures
-    ∙ ap (λ vs. vs ++ replicate (s.count - c.given-given.result) None) c.in_ok-fill_given.ensures
-    ∙ append_assoc old (map (opening_element input 0) (range_with_len s.first c.given-given.result)) (replicate (s.count - c.given-given.result) None)
-    ∙ ap (λ vs. old ++ vs) (sym (input_cells input s.first s.count c.given-given.result c.given-given.ensures))
+    ∙ ap (λ vs. vs ++ replicate (s.count - c.in_input-there.result) None) c.in_ok-fill_given.ensures
+    ∙ append_assoc old (map (opening_element input 0) (range_with_len s.first c.in_input-there.result)) (replicate (s.count - c.in_input-there.result) None)
+    ∙ ap (λ vs. old ++ vs) (sym (input_cells input s.first s.count c.in_input-there.result c.in_input-there.ensures))
     ∙ ap (λ stream. old ++ map (opening_element input stream) (range_with_len s.first s.count)) (sym c.if-stretch-ne0.false)
 
 pub returns-then-stretch-ne0-clause-cells : goal.returns-then-stretch-ne0-clause-cells
@@ -29,4 +29,4 @@ pub returns-clause-empty : goal.returns-clause-empty
 returns-clause-empty c =
     let s = c.args.stretch in
     let input = c.args.input.now in
-    sym (ap (λ stream. count_by is_none (map (opening_element input stream) (range_with_len s.first s.count))) c.if-stretch-ne0.false ∙ input_empty input s.first s.count c.given-given.result c.given-given.ensures)
+    sym (ap (λ stream. count_by is_none (map (opening_element input stream) (range_with_len s.first s.count))) c.if-stretch-ne0.false ∙ input_empty input s.first s.count c.in_input-there.result c.in_input-there.ensures)

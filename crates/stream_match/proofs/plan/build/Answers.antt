@@ -1,7 +1,7 @@
 use Rattle.std.proofs.Common.{[], ◌∷◌, ◌∙◌, List, length, map, ap, sym, subst}
 use Rattle.stream_match.specs.declared.kept.Kept.{Kept}
 use Rattle.stream_match.specs.Weave.{IsWoven}
-use Rattle.stream_match.specs.EpochPlan.{AreFrames, weave_over}
+use Rattle.stream_match.specs.EpochPlan.{AscendInLayout, weave_over}
 use Rattle.stream_match.specs.Kept.{kept_of}
 use Rattle.std.specs.Prelude.{All}
 use Rattle.stream_match.specs.Whole.{all_frames, output_reach}
@@ -11,7 +11,7 @@ use Rattle.stream_match.proofs.Whole.{are, can_leave, whole_sound, whole_stands}
 use Rattle.stream_match.proofs.plan.build.Goals as goal
 
 pub reading-requires-clause-frames : goal.reading-requires-clause-frames
-reading-requires-clause-frames c = subst (AreFrames c.args.layout.now) (sym (c.as_slice.ensures.value ∙ c.in_ok-all.ensures)) (are c.args.layout.now c.requires.layout)
+reading-requires-clause-frames c = subst (AscendInLayout c.args.layout.now) (sym (c.as_slice.ensures.value ∙ c.in_ok-all.ensures)) (are c.args.layout.now c.requires.layout)
 
 pub output-requires-clause-next : goal.output-requires-clause-next
 output-requires-clause-next c = c.in_ok-read.ensures.next ∙ ap (λ frames. reads_before c.args.layout.now frames (length frames)) (c.as_slice.ensures.value ∙ c.in_ok-all.ensures)
@@ -20,7 +20,7 @@ pub output-requires-clause-frames : goal.output-requires-clause-frames
 output-requires-clause-frames c = c.as_slice-2.ensures.value ∙ c.in_ok-all.ensures
 
 pub weave_rows-requires-clause-frames : goal.weave_rows-requires-clause-frames
-weave_rows-requires-clause-frames c = subst (AreFrames c.args.layout.now) (sym (c.as_slice-3.ensures.value ∙ c.in_ok-all.ensures)) (are c.args.layout.now c.requires.layout)
+weave_rows-requires-clause-frames c = subst (AscendInLayout c.args.layout.now) (sym (c.as_slice-3.ensures.value ∙ c.in_ok-all.ensures)) (are c.args.layout.now c.requires.layout)
 
 pub weave_rows-requires-clause-read : goal.weave_rows-requires-clause-read
 weave_rows-requires-clause-read c = subst (λ frames. IsRead c.args.layout.now frames c.in_ok-read.read) (c.as_slice.ensures.value ∙ sym c.as_slice-3.ensures.value) (record { stretches_are = c.in_ok-read.ensures.stretches; next_is = c.in_ok-read.ensures.next })

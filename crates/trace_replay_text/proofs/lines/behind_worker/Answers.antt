@@ -1,7 +1,7 @@
 use Rattle.std.proofs.Common.{ℕ, List, ap, drop, sym, ◌∙◌, arith}
 use Rattle.std.specs.List.{flat_map}
 use Rattle.std.proofs.lemmas.List.{take_rest}
-use Rattle.trace_replay_text.specs.Trace.{field}
+use Rattle.os_io.specs.Lines.{field}
 use Rattle.trace_replay_text.proofs.Cutting.{begins_fields, field_once}
 use Rattle.trace_replay_text.proofs.lines.behind_worker.Goals as goal
 

@@ -1,7 +1,8 @@
 use Rattle.std.proofs.Common.{◌≡◌, ℕ, List, [], drop, sym, subst, ◌∙◌, arith}
 use Rattle.std.specs.Prelude.{IfNone, Option}
 use Rattle.std.specs.List.{flat_map}
-use Rattle.trace_replay_text.specs.Trace.{AreFrames, field}
+use Rattle.os_io.specs.Lines.{field}
+use Rattle.trace_replay_text.specs.Trace.{AreNumbers}
 use Rattle.std.proofs.lemmas.List.{nil_from_length}
 use Rattle.trace_replay_text.proofs.WorkerLines.{no_feed, no_worker, no_numbers}
 use Rattle.trace_replay_text.proofs.lines.read_line.Goals as goal
@@ -23,6 +24,6 @@ returns-in_default-2-clause-err c = (
   omega arith,
   no_numbers c.args.text.now c.place_of-end.result c.place_of-end.ensures c.args.worker c.in-Some.numbers.now c.ranges.worker.fits
       (sym c.split_at.ensures.front ∙ c.in-Some.ensures.some) c.in-Some.ensures.begins
-      (subst (λ (read : Option (List ℕ)). IfNone read ((frames : List ℕ) → AreFrames frames → c.in-Some.numbers.now ≡ flat_map field frames → ⊥))
+      (subst (λ (read : Option (List ℕ)). IfNone read ((frames : List ℕ) → AreNumbers frames → c.in-Some.numbers.now ≡ flat_map field frames → ⊥))
       c.in_default-2.is c.in_ok-frames.ensures.none),
 )

@@ -1,6 +1,6 @@
 use Rattle.std.proofs.Common.{◌≡◌, ◌++◌, drop}
 use Rattle.std.specs.List.{flat_map}
-use Rattle.trace_replay_text.specs.Trace.{field}
+use Rattle.os_io.specs.Lines.{field}
 use Rattle.trace_replay_text.proofs.printing.print_line.Given as goal
 
 -- with the frames to come, the text has all

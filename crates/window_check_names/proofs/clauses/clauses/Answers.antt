@@ -1,5 +1,5 @@
 use Rattle.std.proofs.Common.{List, ◌+◌, arith, drop, map, length, length-append, ap}
-use Rattle.os_ast.specs.ClauseParts.{ClausePart, parts, parts_of}
+use Rattle.os_ast.specs.ClauseParts.{ClausePart, parts, clause_parts}
 use Rattle.os_ast.specs.Views.{clause_kind_tree, clause_tree}
 use Rattle.window_check_names.specs.Parts.{ListedParts}
 use Rattle.window_check_names.proofs.Lists.{items-parts, found-parts, listed-parts}
@@ -11,7 +11,7 @@ loop-next-preserved c =
     let split = parts-drop c.args.clauses.now c.loop-next.next-index c.next-item.result (omega (arith, ap length c.as_slice-next-items.ensures)) (rw c.as_slice-next-items.ensures at c.next-item.is) in
     let s = c.args.scopes.now in
     let l = c.loop-next.listed in
-    let here = parts_of (clause_kind_tree c.next-item.result.kind) in
+    let here = clause_parts (clause_kind_tree c.next-item.result.kind) in
     let rest = parts (map clause_tree (drop (c.loop-next.next-index + 1) c.args.clauses.now)) in
     record {
       found = found-parts s c.loop-next.found c.clause.new.found l c.clause.new.listed here rest _ _ split c.in_ok-clause.ensures.found c.in_ok-clause.ensures.listed c.loop-next.invariant.found;

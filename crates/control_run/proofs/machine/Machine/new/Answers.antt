@@ -2,7 +2,7 @@ use Rattle.std.proofs.Common.{ℕ, ◌-◌, [], ◌∷◌, set, take, to_z, ℤ,
 use Rattle.std.proofs.lemmas.Int.{to_z_pos}
 use Rattle.os_code.specs.Chains.{Alone}
 use Rattle.os_code.specs.Codes.{parts_of}
-use Rattle.os_code.specs.declared.unit.Unit.{Unit as CodeUnit}
+use Rattle.os_code.specs.declared.unit.CodeUnit.{CodeUnit}
 use Rattle.os_code.proofs.Fitting.{chain-few}
 use Rattle.os_code.proofs.LargestSums.{chain_need-cons}
 use Rattle.control_run.proofs.Coming.{begins-there}

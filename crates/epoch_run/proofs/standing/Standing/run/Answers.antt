@@ -1,7 +1,7 @@
 use Rattle.std.proofs.Common.{arith, ap, drop, List, subst, sym, take, ◌∙◌}
 use Rattle.flow_core_laws.specs.declared.activation.Activation.{Activation}
 use Rattle.os_code.specs.Codes.{parts_of}
-use Rattle.os_code.specs.Outcomes.{control}
+use Rattle.os_code.specs.Outcomes.{main_control}
 use Rattle.stream_match_layouts.proofs.Sums.{frames_bound}
 use Rattle.epoch_run.specs.Held.{IsHeldOf}
 use Rattle.epoch_run.proofs.Going.{first_created, has_run, opens, whole_layout}
@@ -15,7 +15,7 @@ pub run_epoch-requires-clause-open : goal.run_epoch-requires-clause-open
 run_epoch-requires-clause-open g c κs within =
     let s = c.args.self.now in
     opens c.args.code.now c.args.input.now c.args.budgets s c.requires.budgets c.requires.stands
-    (take c.frames.result (control (parts_of c.args.code.now) s.layout.input_len c.args.budgets.control).activations)
+    (take c.frames.result (main_control (parts_of c.args.code.now) s.layout.input_len c.args.budgets.control).activations)
     (first_created c.args.code.now c.args.input.now c.args.budgets s c.requires.budgets c.requires.stands c.frames.result s.layout.input_len c.frames.ensures c.requires.stands.over)
 
 pub run_epoch-requires-clause-there : goal.run_epoch-requires-clause-there

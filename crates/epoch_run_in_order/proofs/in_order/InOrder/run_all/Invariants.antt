@@ -5,7 +5,7 @@ use Rattle.stream_match_layouts.specs.Layout.{IsLayoutOf}
 use Rattle.epoch_run_in_order.specs.Standing.{IsReady, StandsBehind}
 use Rattle.epoch_run_in_order.proofs.in_order.InOrder.run_all.Given as goal
 
--- so many of them have run
+-- the first `count` of the activations have run
 abbrev pub invariant-running : goal.invariant-running
 invariant-running g l = record {
   ready : IsReady l.code l.self;

@@ -1,7 +1,7 @@
 use Rattle.std.proofs.Common.{◌≡◌, replicate}
 use Rattle.epoch_run_shares.proofs.positions.Positions.new.Given as goal
 
--- so many cursors are there, and each is 0
+-- `counter` cursors of each kind are there, and each is 0
 abbrev pub invariant-loop : goal.invariant-loop
 invariant-loop l = record {
   reads : l.positions.cursors.reads ≡ replicate l.counter 0;

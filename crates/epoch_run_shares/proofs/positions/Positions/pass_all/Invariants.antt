@@ -3,7 +3,7 @@ use Rattle.flow_core_laws.specs.declared.activation.Activation.{Activation}
 use Rattle.epoch_run_shares.specs.Positions.{HavePassed}
 use Rattle.epoch_run_shares.proofs.positions.Positions.pass_all.Given as goal
 
--- so many of them were passed
+-- the activations before that of `activation-index` were passed
 abbrev pub invariant-loop-activation : goal.invariant-loop-activation
 invariant-loop-activation l = record {
   passed : (streams : ℕ) (passed : List Activation) → HavePassed streams passed l.initial.self → HavePassed streams (passed ++ take l.activation-index l.activations) l.self;

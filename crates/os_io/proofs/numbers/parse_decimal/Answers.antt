@@ -1,7 +1,7 @@
 use Rattle.std.proofs.Common.{◌≡◌, length, get_or, sym, arith}
-use Rattle.trace_replay_text.proofs.Numbers.{not_empty, no_plus, no_padding, is_text, is_read, are_decimal}
-use Rattle.trace_replay_text.proofs.fields.number_of.Goals as goal
-use Rattle.trace_replay_text.proofs.fields.number_of.Goals.{else-first-eq48-via-then-first-eq48+else-not-is_empty, else-first-eq48-via-else-first-eq48}
+use Rattle.os_io.proofs.Digits.{not_empty, no_plus, no_padding, is_text, is_read, are_decimal}
+use Rattle.os_io.proofs.numbers.parse_decimal.Goals as goal
+use Rattle.os_io.proofs.numbers.parse_decimal.Goals.{else-first-eq48-via-then-first-eq48+else-not-is_empty, else-first-eq48-via-else-first-eq48}
 
 pub returns-in_default-clause-none : goal.returns-in_default-clause-none
 returns-in_default-clause-none c = λ n small is. omega (arith, not_empty c.args.digits.now n small is, c.in_default.len_below)

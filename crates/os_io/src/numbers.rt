@@ -1,8 +1,9 @@
 ghost use Rattle.std.specs.Prelude.{◌≡◌, ◌^◌, ◌<◌, IfSome, IfNone, ℕ};
 ghost use Rattle.std.specs.Fmt.{decimal};
 
-/// The number below 2 ^ 32 that is written so in decimals: without leading zeros, and without a sign.
-pub fn number_of(digits: &[u8]) -> Option<u32>
+/// Reads a number below 2 ^ 32 that stands in decimals as programs write them: digits alone, without leading zeros and without a sign. None for all
+/// other bytes. It takes no memory.
+pub fn parse_decimal(digits: &[u8]) -> Option<u32>
     ensures some { IfSome result (λ number. (number < 2 ^ 32) × (digits.now ≡ decimal number)) }
     ensures none { IfNone result ((number : ℕ) → number < 2 ^ 32 → digits.now ≡ decimal number → ⊥) }
 {

@@ -1,0 +1,2 @@
+/// The most bytes of a file that is read whole.
+pub const READ_LIMIT: u64 = 67_108_864;
