@@ -21,5 +21,6 @@ fn holds_what_is_pushed_and_written(rt: HostRuntime) -> Result<(), Fail> {
     assert!(rt; list.as_slice() == [7, 7, 7].as_slice());
     list.extend_from_slice(&[11, 13])?;
     assert!(rt; list.as_slice() == [7, 7, 7, 11, 13].as_slice());
+    assert!(rt; List::filled(rt.alloc(), 17u32, 3)?.as_slice() == [17, 17, 17].as_slice());
     Ok(())
 }

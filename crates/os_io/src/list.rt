@@ -1,4 +1,4 @@
-ghost use Rattle.std.specs.Prelude.{◌≡◌, [], ◌∷◌, ◌++◌, length, IfOk, OnOk, OnErr};
+ghost use Rattle.std.specs.Prelude.{◌≡◌, [], ◌∷◌, ◌++◌, length, replicate, IfOk, OnOk, OnErr};
 
 use crate::errors::Memory;
 use std::alloc::Global;
@@ -82,6 +82,17 @@ impl<T: Copy> List<T> {
         Ok(List {
             items: Vec::from_slice(alloc, items)?,
         })
+    }
+
+    /// A list of an item, `count` times, with memory for exactly these.
+    pub fn filled(alloc: Global, item: T, count: usize) -> Result<List<T>, Memory>
+        ensures { IfOk result (λ list. list ≡ replicate count item) }
+    {
+        let mut items = Vec::with_capacity(alloc, count)?;
+        for _ in 0..count {
+            items.push(item)?;
+        }
+        Ok(List { items })
     }
 }
 
