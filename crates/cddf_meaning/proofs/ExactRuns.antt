@@ -24,8 +24,8 @@ use Rattle.cddf_meaning.specs.declared.site.Site.{Site}
 use Rattle.cddf_meaning.specs.declared.variable.Variable.TheVariants.{Scalar, Array, Window}
 use Rattle.flow_core_laws.specs.declared.activation.Activation.{Activation}
 use Rattle.flow_core_laws.specs.declared.claim.Claim.{Claim}
-use Rattle.os_ast.specs.ClauseParts as clause
-use Rattle.os_ast.specs.ClauseParts.{parts}
+use Rattle.os_ast.specs.ClauseMembers as clause
+use Rattle.os_ast.specs.ClauseMembers.{members}
 use Rattle.os_ast.specs.Trees as tree
 use Rattle.os_ast.specs.declared.expr.Mark.{Mark}
 use Rattle.os_ast.specs.declared.names.Direction.{Direction}
@@ -361,7 +361,7 @@ item-exact file calls d i s turns =
     exact-then (stream_number file i.stream s) (λ n. joined file d n.value i.window s n.turns) turns (stream_number file i.stream s turns)
     (number-exact file calls i.stream s turns) (λ n. joined-exact file calls d n.value i.window s n.turns)
 
-items-exact : (file : File) → CallsExact file → (ps : List clause.ClausePart) (s : BodyState) (turns : ℕ) →
+items-exact : (file : File) → CallsExact file → (ps : List clause.ClauseMember) (s : BodyState) (turns : ℕ) →
     IsExact (List Claim) (items_claims file ps s) turns (items_claims file ps s turns)
 items-exact file calls [] s turns = exact-here [] turns
 items-exact file calls (clause.Private n ∷ ps) s turns = items-exact file calls ps s turns
@@ -376,7 +376,7 @@ limited-exact : (l : Option ControlLimit) (s next : BodyState) (turns : ℕ) →
 limited-exact None s next turns = went-exact GoesOn next turns
 limited-exact (Some limit) s next turns = λ more. refl
 
-task-exact : (file : File) → CallsExact file → (sites : List Site) (number : Option ℕ) (ps : List clause.ClausePart) (s : BodyState) (turns : ℕ) →
+task-exact : (file : File) → CallsExact file → (sites : List Site) (number : Option ℕ) (ps : List clause.ClauseMember) (s : BodyState) (turns : ℕ) →
     RunsExactly (run_task file sites number ps s) turns (run_task file sites number ps s turns)
 task-exact file calls sites None ps s turns = went-exact GoesOn s turns
 task-exact file calls sites (Some number) ps s turns =
@@ -435,7 +435,7 @@ mutual
   run-exact u fall calls (tree.Continue m) s turns = went-exact Continues s turns
   run-exact u fall calls (tree.Return m e) s turns =
       valued-exact u.file calls e s turns (λ n. Went (Returns n.value) s n.turns) (λ n. went-exact (Returns n.value) s n.turns)
-  run-exact u fall calls (tree.Task m cs a) s turns = task-exact u.file calls u.sites (task_number u.sites m) (parts cs) s turns
+  run-exact u fall calls (tree.Task m cs a) s turns = task-exact u.file calls u.sites (task_number u.sites m) (members cs) s turns
   run-exact u fall calls (tree.Tick m t arrow e) s turns = tick-exact u.file calls t arrow e s turns
   run-exact u fall calls (tree.Taskwait m) s turns = went-exact GoesOn s turns
 

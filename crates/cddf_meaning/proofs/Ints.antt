@@ -27,7 +27,7 @@ use Rattle.cddf_meaning.specs.declared.variable.Binding.{Binding}
 use Rattle.cddf_meaning.specs.declared.variable.Variable.TheVariants.{Constant, Function, Scalar, Array, Window, Stream, Item}
 use Rattle.cddf_meaning.specs.declared.variable.Variable.{Variable}
 use Rattle.os_ast.specs.Notes.Programs.{param_list}
-use Rattle.os_ast.specs.ClauseParts.{ClausePart, parts}
+use Rattle.os_ast.specs.ClauseMembers.{ClauseMember, members}
 use Rattle.os_ast.specs.Trees as tree
 use Rattle.os_ast.specs.Unsigned.{is_unsigned}
 use Rattle.os_ast.specs.declared.expr.Mark.{Mark}
@@ -298,7 +298,7 @@ limited-fits : (l : Option ControlLimit) (s next : BodyState) (turns : ℕ) → 
 limited-fits None s next turns f = went next turns f
 limited-fits (Some n) s next turns f = tt
 
-task-run : (file : File) (sites : List Site) (number : Option ℕ) (ps : List ClausePart) → RunsFit (run_task file sites number ps)
+task-run : (file : File) (sites : List Site) (number : Option ℕ) (ps : List ClauseMember) → RunsFit (run_task file sites number ps)
 task-run file sites None ps s turns f = went s turns f
 task-run file sites (Some number) ps s turns f =
     with_value-any (items_claims file ps s turns) s
@@ -349,7 +349,7 @@ mutual
   run-fits u g (tree.Continue m) h s turns f = (f, tt)
   run-fits u g (tree.Return m e) h s turns f =
       with_value-int (value u.file e s turns) s (λ n. Went (Returns n.value) s n.turns) (value-int u.file g e h s turns f) (λ n i. (f, i))
-  run-fits u g (tree.Task m cs a) h s turns f = task-run u.file u.sites (task_number u.sites m) (parts cs) s turns f
+  run-fits u g (tree.Task m cs a) h s turns f = task-run u.file u.sites (task_number u.sites m) (members cs) s turns f
   run-fits u g (tree.Tick m t arrow e) h s turns f = tick-run u.file t arrow e s turns f
   run-fits u g (tree.Taskwait m) h s turns f = went s turns f
 

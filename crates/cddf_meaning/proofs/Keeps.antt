@@ -20,8 +20,8 @@ use Rattle.cddf_meaning.specs.declared.flow.Flow.TheVariants.{GoesOn, Breaks, Co
 use Rattle.cddf_meaning.specs.declared.site.Site.{Site}
 use Rattle.cddf_meaning.specs.declared.variable.Variable.{Variable}
 use Rattle.cddf_meaning.specs.declared.variable.Variable.TheVariants.{Constant, Function, Scalar, Array, Window, Stream, Item}
-use Rattle.os_ast.specs.ClauseParts as clause
-use Rattle.os_ast.specs.ClauseParts.{parts}
+use Rattle.os_ast.specs.ClauseMembers as clause
+use Rattle.os_ast.specs.ClauseMembers.{members}
 use Rattle.os_ast.specs.Trees as tree
 use Rattle.os_ast.specs.declared.expr.Mark.{Mark}
 use Rattle.os_ast.specs.declared.names.Direction.{Direction}
@@ -257,7 +257,7 @@ item-falls file calls d i s turns =
     falls-then turns (stream_number file i.stream s turns) (λ n. joined file d n.value i.window s n.turns)
     (number-falls file calls i.stream s turns) (λ n. joined-falls file calls d n.value i.window s n.turns)
 
-items-falls : (file : File) → CallsFall file → (ps : List clause.ClausePart) (s : BodyState) (turns : ℕ) → Falls turns (items_claims file ps s turns)
+items-falls : (file : File) → CallsFall file → (ps : List clause.ClauseMember) (s : BodyState) (turns : ℕ) → Falls turns (items_claims file ps s turns)
 items-falls file calls [] s turns = omega arith
 items-falls file calls (clause.Private n ∷ ps) s turns = items-falls file calls ps s turns
 items-falls file calls (clause.Item d i ∷ ps) s turns =
@@ -271,7 +271,7 @@ limited-keeps : (l : Option ControlLimit) (s next : BodyState) (turns : ℕ) →
 limited-keeps None s next turns e = keeps-on s next turns e
 limited-keeps (Some n) s next turns e = tt
 
-task-keeps : (file : File) → CallsFall file → (sites : List Site) (number : Option ℕ) (ps : List clause.ClausePart) (s : BodyState) (turns : ℕ) →
+task-keeps : (file : File) → CallsFall file → (sites : List Site) (number : Option ℕ) (ps : List clause.ClauseMember) (s : BodyState) (turns : ℕ) →
     Keeps s turns (run_task file sites number ps s turns)
 task-keeps file calls sites None ps s turns = keeps-on s s turns refl
 task-keeps file calls sites (Some number) ps s turns =
@@ -325,7 +325,7 @@ mutual
   run-keeps u calls (tree.Continue m) s turns = (omega arith, refl)
   run-keeps u calls (tree.Return m e) s turns =
       valued-keeps u.file calls e s turns (λ n. Went (Returns n.value) s n.turns) (λ n. (omega arith, refl))
-  run-keeps u calls (tree.Task m cs a) s turns = task-keeps u.file calls u.sites (task_number u.sites m) (parts cs) s turns
+  run-keeps u calls (tree.Task m cs a) s turns = task-keeps u.file calls u.sites (task_number u.sites m) (members cs) s turns
   run-keeps u calls (tree.Tick m t arrow e) s turns = tick-keeps u.file calls t arrow e s turns
   run-keeps u calls (tree.Taskwait m) s turns = keeps-on s s turns refl
 

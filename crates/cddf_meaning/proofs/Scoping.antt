@@ -15,7 +15,7 @@ use Rattle.os_ast.specs.Notes.Declarators.{after_declarator, after_declarators, 
 use Rattle.os_ast.specs.Notes.Programs as notes
 use Rattle.os_ast.specs.Notes.Programs.{after_item, after_items, after_param, after_params, in_body, in_function, param_list}
 use Rattle.os_ast.specs.Notes.Statements.{after_stmt, after_stmts}
-use Rattle.os_ast.specs.ClauseParts.{is_in, item_ids, parts}
+use Rattle.os_ast.specs.ClauseMembers.{is_in, item_ids, members}
 use Rattle.os_ast.specs.Trees as tree
 use Rattle.os_ast.specs.Unsigned.{is_unsigned}
 use Rattle.os_ast.specs.declared.expr.Mark.{Mark}
@@ -117,12 +117,12 @@ names-known es (id ∷ is) =
 
 task-found : (s : Scope) (m : Mark) (cs : List tree.ClauseTree) (body : tree.StmtTree) → scoped_task_at s m cs body ≡ task_at (known_of s.entries) m cs body
 task-found s m cs body =
-    ap (λ ns. record { mark = m; parts = parts cs; body = body; captured = map (scoped_name s.entries) ns; items = map (scoped_name s.entries) (item_ids (parts cs)) })
-    (ids-among (task_names (parts cs) body) (captures.scalars s.entries) ∙ ap (among (task_names (parts cs) body)) (ids-scalars s.entries))
-    ∙ ap (λ ns. record { mark = m; parts = parts cs; body = body; captured = ns; items = map (scoped_name s.entries) (item_ids (parts cs)) })
-    (names-known s.entries (among (task_names (parts cs) body) (with_all_known [] (known_of s.entries))))
-    ∙ ap (λ ns. record { mark = m; parts = parts cs; body = body; captured = map (typed_known (known_of s.entries)) (among (task_names (parts cs) body) (with_all_known [] (known_of s.entries))); items = ns })
-    (names-known s.entries (item_ids (parts cs)))
+    ap (λ ns. record { mark = m; members = members cs; body = body; captured = map (scoped_name s.entries) ns; items = map (scoped_name s.entries) (item_ids (members cs)) })
+    (ids-among (task_names (members cs) body) (captures.scalars s.entries) ∙ ap (among (task_names (members cs) body)) (ids-scalars s.entries))
+    ∙ ap (λ ns. record { mark = m; members = members cs; body = body; captured = ns; items = map (scoped_name s.entries) (item_ids (members cs)) })
+    (names-known s.entries (among (task_names (members cs) body) (with_all_known [] (known_of s.entries))))
+    ∙ ap (λ ns. record { mark = m; members = members cs; body = body; captured = map (typed_known (known_of s.entries)) (among (task_names (members cs) body) (with_all_known [] (known_of s.entries))); items = ns })
+    (names-known s.entries (item_ids (members cs)))
 
 -- what a declarator and a statement leave in scope
 

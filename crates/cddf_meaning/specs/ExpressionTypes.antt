@@ -1,7 +1,7 @@
 -- The types of expressions. A type is told by whether it is `unsigned`; else it is `int`. C11, 6.3.1.8; 6.5.3.3, 3 and 5; 6.5.7, 3;
 -- 6.5.8 and 6.5.9; 6.5.13 to 6.5.15. What is evaluated makes no difference.
 use Rattle.std.specs.Prelude.{Bool, true, false, ◌||◌}
-use Rattle.os_ast.specs.ClauseParts.{target_name}
+use Rattle.os_ast.specs.ClauseMembers.{target_name}
 use Rattle.os_ast.specs.Trees as tree
 use Rattle.os_ast.specs.declared.expr.Binary.TheVariants as binary
 use Rattle.os_ast.specs.declared.expr.Binary.{Binary}

@@ -19,7 +19,7 @@ use Rattle.cddf_meaning.specs.Value.{value, values, call_value, scalar_value, el
 use Rattle.cddf_meaning.specs.declared.ending.Ending.TheVariants.{OverBudget}
 use Rattle.cddf_meaning.specs.declared.flow.Flow.TheVariants.{Breaks, Continues, Returns}
 use Rattle.cddf_meaning.specs.declared.variable.Variable.TheVariants.{Scalar, Array, Window, Stream}
-use Rattle.os_ast.specs.ClauseParts.{parts, target_name}
+use Rattle.os_ast.specs.ClauseMembers.{members, target_name}
 use Rattle.os_ast.specs.Unsigned.{is_unsigned}
 use Rattle.os_ast.specs.Notes.Declarators.{within_limit}
 use Rattle.os_ast.specs.Trees as tree
@@ -163,7 +163,7 @@ abbrev mutual
   run u (tree.Break m) s turns = Went Breaks s turns
   run u (tree.Continue m) s turns = Went Continues s turns
   run u (tree.Return m e) s turns = with_value (value u.file e s turns) s (λ n. Went (Returns n.value) s n.turns)
-  run u (tree.Task m cs a) s turns = run_task u.file u.sites (task_number u.sites m) (parts cs) s turns
+  run u (tree.Task m cs a) s turns = run_task u.file u.sites (task_number u.sites m) (members cs) s turns
   run u (tree.Tick m t arrow e) s turns = run_tick u.file t arrow e s turns
   -- `;` and a taskwait do nothing: the control program reads no element, so there is nothing to wait for.
   run u _ s turns = goes_on s turns

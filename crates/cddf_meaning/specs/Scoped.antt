@@ -11,7 +11,7 @@ use Rattle.os_ast.specs.Notes.Declarators.{after_start}
 use Rattle.os_ast.specs.Notes.Programs as notes
 use Rattle.os_ast.specs.Notes.Programs.{after_item, in_body}
 use Rattle.os_ast.specs.Notes.Statements.{after_stmt}
-use Rattle.os_ast.specs.ClauseParts.{item_ids, parts}
+use Rattle.os_ast.specs.ClauseMembers.{item_ids, members}
 use Rattle.os_ast.specs.Trees as tree
 use Rattle.os_ast.specs.declared.expr.Mark.{Mark}
 use Rattle.os_ast.specs.declared.names.Entry.{Entry}
@@ -24,10 +24,10 @@ scoped_name entries id = record { id = id; unsigned = flag_of (lookup entries id
 abbrev pub scoped_task_at : Scope → Mark → List tree.ClauseTree → tree.StmtTree → Task
 scoped_task_at s m cs body = record {
   mark = m;
-  parts = parts cs;
+  members = members cs;
   body = body;
-  captured = map (scoped_name s.entries) (map (λ (c : Scalar). c.id) (captured s.entries (parts cs) body));
-  items = map (scoped_name s.entries) (item_ids (parts cs));
+  captured = map (scoped_name s.entries) (map (λ (c : Scalar). c.id) (captured s.entries (members cs) body));
+  items = map (scoped_name s.entries) (item_ids (members cs));
 }
 
 -- The tasks in a statement, where this is in scope. No task stands in a task.

@@ -19,7 +19,7 @@ use Rattle.cddf_meaning.specs.declared.variable.Variable.{Variable}
 use Rattle.flow_core_laws.specs.Limits.{move_limit}
 use Rattle.flow_core_laws.specs.declared.activation.Activation.{Activation}
 use Rattle.flow_core_laws.specs.declared.claim.Claim.{Claim}
-use Rattle.os_ast.specs.ClauseParts.{ClausePart, Item, Private}
+use Rattle.os_ast.specs.ClauseMembers.{ClauseMember, Item, Private}
 use Rattle.os_ast.specs.Trees as tree
 use Rattle.os_ast.specs.declared.expr.Mark.{Mark}
 use Rattle.os_ast.specs.declared.names.Direction.TheVariants as direction
@@ -79,7 +79,7 @@ abbrev pub item_claim : File → Direction → tree.ClauseItemTree → BodyState
 item_claim file d i s turns = and_then (stream_number file i.stream s turns) (λ n. joined file d n.value i.window s n.turns)
 
 -- The items of a task, one after another.
-abbrev pub items_claims : File → List ClausePart → BodyState → ℕ → Answer (Left (List Claim))
+abbrev pub items_claims : File → List ClauseMember → BodyState → ℕ → Answer (Left (List Claim))
 items_claims file [] s turns = Ok (left [] turns)
 items_claims file (Private n ∷ ps) s turns = items_claims file ps s turns
 items_claims file (Item d i ∷ ps) s turns = and_then (item_claim file d i s turns)
@@ -113,7 +113,7 @@ captured_by sites number = get_or (map (λ t. t.captured) sites) number []
 
 -- A task pragma: its items in order, then the limits, then the activation is there. Its PragmaStart is that of one of
 -- the program's tasks.
-abbrev pub run_task : File → List Site → Option ℕ → List ClausePart → BodyState → ℕ → Ran
+abbrev pub run_task : File → List Site → Option ℕ → List ClauseMember → BodyState → ℕ → Ran
 run_task file sites None ps s turns = goes_on s turns
 run_task file sites (Some number) ps s turns = with_value (items_claims file ps s turns) s
     (λ c. unless_limited (limit s.activations c.value) s c.turns (with_activation file number (captured_by sites number) c.value s))

@@ -7,7 +7,7 @@ use Rattle.cddf_meaning.specs.declared.typed_name.TypedName.{TypedName}
 use Rattle.os_ast.specs.FreeNames.{task_names}
 use Rattle.os_ast.specs.Names.{osin_id, osout_id, osin_len_id}
 use Rattle.os_ast.specs.Notes.Programs.{param_list, global_id}
-use Rattle.os_ast.specs.ClauseParts.{ClausePart, is_in, item_ids, parts}
+use Rattle.os_ast.specs.ClauseMembers.{ClauseMember, is_in, item_ids, members}
 use Rattle.os_ast.specs.Trees as tree
 use Rattle.os_ast.specs.Unsigned.{is_unsigned}
 use Rattle.os_ast.specs.declared.expr.Mark.{Mark}
@@ -18,7 +18,7 @@ pub record Task : Type 0 where
   -- its PragmaStart
   pub mark : Mark
   -- its items and `firstprivate` names, in the order of its clauses
-  pub parts : List ClausePart
+  pub members : List ClauseMember
   pub body : tree.StmtTree
   -- the names of the scalars that it captures, in the order of their declarations
   pub captured : List TypedName
@@ -85,10 +85,10 @@ typed_known ks id = record { id = id; unsigned = known_flag false ks id }
 abbrev pub task_at : List KnownName → Mark → List tree.ClauseTree → tree.StmtTree → Task
 task_at ks m cs body = record {
   mark = m;
-  parts = parts cs;
+  members = members cs;
   body = body;
-  captured = map (typed_known ks) (among (task_names (parts cs) body) (with_all_known [] ks));
-  items = map (typed_known ks) (item_ids (parts cs));
+  captured = map (typed_known ks) (among (task_names (members cs) body) (with_all_known [] ks));
+  items = map (typed_known ks) (item_ids (members cs));
 }
 
 -- The tasks in a statement, where this is in scope. No task stands in a task.

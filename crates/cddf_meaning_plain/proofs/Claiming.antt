@@ -10,7 +10,7 @@ use Rattle.cddf_meaning_plain_state.specs.Claimed.{behind}
 use Rattle.cddf_meaning_plain_state.specs.declared.stop.Stop.{Stop}
 use Rattle.cddf_meaning_plain_state.specs.declared.stop.Stop.TheVariants as stop
 use Rattle.flow_core_laws.specs.declared.claim.Claim.{Claim}
-use Rattle.os_ast.specs.ClauseParts as clause
+use Rattle.os_ast.specs.ClauseMembers as clause
 use Rattle.os_ast.specs.Views.{clause_tree, clause_kind_tree}
 use Rattle.os_ast.specs.declared.expr.Name.{Name}
 use Rattle.os_ast.specs.declared.pragma.Clause.{Clause}
@@ -43,7 +43,7 @@ then-then : (a : Answer (Left Claim)) (f : Left Claim → Answer (Left (List Cla
 then-then (Ok v) f g = refl
 then-then (Err ending) f g = refl
 
-pub claims-append : (file : File) (ps qs : List clause.ClausePart) (s : BodyState) (turns : ℕ) →
+pub claims-append : (file : File) (ps qs : List clause.ClauseMember) (s : BodyState) (turns : ℕ) →
     items_claims file (ps ++ qs) s turns ≡ and_then (items_claims file ps s turns) (λ cs. behind cs.value (items_claims file qs s cs.turns))
 claims-append file [] qs s turns = sym (behind-none (items_claims file qs s turns))
 claims-append file (clause.Private n ∷ ps) qs s turns = claims-append file ps qs s turns
@@ -74,22 +74,22 @@ went-on before after turns (Ok cs) q h =
     behind-behind before cs.value (q cs.turns)
     ∙ ap (λ (l : Left (List Claim)). behind l.value (q l.turns)) same
 
-abbrev pub at_clause : List Clause → ℕ → List clause.ClausePart
-at_clause clauses i = clause.parts (map clause_tree (drop i clauses))
+abbrev pub at_clause : List Clause → ℕ → List clause.ClauseMember
+at_clause clauses i = clause.members (map clause_tree (drop i clauses))
 
 clause-step : (clauses : List Clause) (i : ℕ) (c : Clause) → i < length clauses → c ≡ get_or clauses i c →
-    at_clause clauses i ≡ clause.clause_parts (clause_kind_tree c.kind) ++ at_clause clauses (i + 1)
+    at_clause clauses i ≡ clause.clause_members (clause_kind_tree c.kind) ++ at_clause clauses (i + 1)
 clause-step clauses i c inside is =
-    ap (λ cs. clause.parts (map clause_tree cs)) (drop-cons clauses i c inside)
-    ∙ ap (λ d. clause.parts (map clause_tree (d ∷ drop (suc i) clauses))) (sym is)
-    ∙ ap (λ k. clause.clause_parts (clause_kind_tree c.kind) ++ at_clause clauses k) (sym (add-one i))
+    ap (λ cs. clause.members (map clause_tree cs)) (drop-cons clauses i c inside)
+    ∙ ap (λ d. clause.members (map clause_tree (d ∷ drop (suc i) clauses))) (sym is)
+    ∙ ap (λ k. clause.clause_members (clause_kind_tree c.kind) ++ at_clause clauses k) (sym (add-one i))
 
 pub clause-stops : (file : File) (clauses : List Clause) (i : ℕ) (c : Clause) (s : BodyState) (turns : ℕ) (before : List Claim)
     (all : Answer (Left (List Claim))) (reason : Stop) → i < length clauses → c ≡ get_or clauses i c →
     behind before (items_claims file (at_clause clauses i) s turns) ≡ all →
-    Stops reason (items_claims file (clause.clause_parts (clause_kind_tree c.kind)) s turns) → Stops reason all
+    Stops reason (items_claims file (clause.clause_members (clause_kind_tree c.kind)) s turns) → Stops reason all
 clause-stops file clauses i c s turns before all (stop.Ended ending) inside is inv h =
-    let ps = clause.clause_parts (clause_kind_tree c.kind) in
+    let ps = clause.clause_members (clause_kind_tree c.kind) in
     let qs = at_clause clauses (i + 1) in
     sym inv ∙ ap (λ xs. behind before (items_claims file xs s turns)) (clause-step clauses i c inside is)
     ∙ ap (behind before) (claims-append file ps qs s turns)
@@ -99,10 +99,10 @@ clause-stops file clauses i c s turns before all stop.Memory inside is inv h = t
 pub clause-goes : (file : File) (clauses : List Clause) (i : ℕ) (c : Clause) (s : BodyState) (turns left : ℕ) (before after : List Claim)
     (all : Answer (Left (List Claim))) → i < length clauses → c ≡ get_or clauses i c →
     behind before (items_claims file (at_clause clauses i) s turns) ≡ all →
-    behind before (items_claims file (clause.clause_parts (clause_kind_tree c.kind)) s turns) ≡ Ok (record { value = after; turns = left }) →
+    behind before (items_claims file (clause.clause_members (clause_kind_tree c.kind)) s turns) ≡ Ok (record { value = after; turns = left }) →
     behind after (items_claims file (at_clause clauses (i + 1)) s left) ≡ all
 clause-goes file clauses i c s turns left before after all inside is inv h =
-    let ps = clause.clause_parts (clause_kind_tree c.kind) in
+    let ps = clause.clause_members (clause_kind_tree c.kind) in
     let qs = at_clause clauses (i + 1) in
     sym (went-on before after left (items_claims file ps s turns) (items_claims file qs s) h)
     ∙ ap (behind before) (sym (claims-append file ps qs s turns))

@@ -4,7 +4,7 @@ ghost use Rattle.std.specs.Prelude.{◌≤◌, map, option_map};
 ghost use Rattle.cddf_meaning.specs.Functions.{file_of};
 ghost use Rattle.cddf_meaning.specs.Run as runs;
 ghost use Rattle.cddf_meaning.specs.Streams.{items_claims, item_claim, joined, run_tick, stream_number};
-ghost use Rattle.os_ast.specs.ClauseParts as clause;
+ghost use Rattle.os_ast.specs.ClauseMembers as clause;
 ghost use Rattle.os_ast.specs.Trees as tree;
 ghost use Rattle.os_ast.specs.Views.{clause_item_tree, clause_kind_tree, clause_tree, expr_tree, item_tree, join_tree, stmt_tree, target_tree};
 ghost use Rattle.cddf_meaning_plain_state.specs.Stops.{Adds, Evaluates, GoesOn};
@@ -123,7 +123,7 @@ fn clause_claims(
     turns: &mut u64,
 ) -> Result<(), Stop>
     ensures adds { Adds result claims.old claims.new turns.new (items_claims (file_of (map item_tree file.now))
-        (clause.clause_parts (clause_kind_tree kind.now)) state.now turns.old) }
+        (clause.clause_members (clause_kind_tree kind.now)) state.now turns.old) }
     ensures fewer { turns.new ≤ turns.old }
 {
     match kind {
@@ -147,7 +147,7 @@ fn all_claims(
     turns: &mut u64,
 ) -> Result<List<Claim>, Stop>
     ensures claims { Evaluates result turns.new
-        (items_claims (file_of (map item_tree file.now)) (clause.parts (map clause_tree clauses.now)) state.now turns.old) }
+        (items_claims (file_of (map item_tree file.now)) (clause.members (map clause_tree clauses.now)) state.now turns.old) }
     ensures fewer { turns.new ≤ turns.old }
 {
     let mut claims = List::new(alloc);

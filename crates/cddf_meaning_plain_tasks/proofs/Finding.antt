@@ -3,7 +3,7 @@ use Rattle.std.proofs.Common.{◌≡◌, ℕ, suc, ◌+◌, ◌<◌, ◌==◌, B
 use Rattle.std.proofs.Math.Seq.{drop-cons}
 use Rattle.std.proofs.lemmas.List.{append_assoc, append-nil}
 use Rattle.cddf_meaning.specs.Tasks.{among, others}
-use Rattle.os_ast.specs.ClauseParts.{is_in}
+use Rattle.os_ast.specs.ClauseMembers.{is_in}
 
 filter-step : (b : Bool) (i : ℕ) (xs ys : List ℕ) → xs ≡ ys → (if not b then i ∷ xs else xs) ≡ (if b then ys else i ∷ ys)
 filter-step true i xs ys h = h

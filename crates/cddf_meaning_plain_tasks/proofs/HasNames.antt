@@ -4,8 +4,8 @@ use Rattle.std.proofs.lemmas.List.{append_assoc}
 use Rattle.cddf_meaning.proofs.IsIn.{in-append}
 use Rattle.cddf_meaning_plain_tasks.specs.Sought.{ids_of, item_names, items_names}
 use Rattle.cddf_meaning_plain_tasks.specs.Has.{calls_item, clause_calls_item, clause_item_ids, clause_lists, clauses_item_ids, declares, has_args, has_change, has_clause, has_clauses, has_declarators, has_expr, has_index, has_items, has_join, has_links, has_start, has_step, has_stmt, has_stmts, has_target, has_task, has_value, lists}
-use Rattle.os_ast.specs.FreeNames.{args_names, change_names, declarators_names, expr_names, index_names, join_names, links_names, parts_names, start_ids, start_names, step_names, stmt_ids, stmt_names, stmts_names, target_names, task_names, value_names, without}
-use Rattle.os_ast.specs.ClauseParts.{ClausePart, Item, Private, is_in, item_ids, item_name, parts, clause_parts, private_ids}
+use Rattle.os_ast.specs.FreeNames.{args_names, change_names, declarators_names, expr_names, index_names, join_names, links_names, members_names, start_ids, start_names, step_names, stmt_ids, stmt_names, stmts_names, target_names, task_names, value_names, without}
+use Rattle.os_ast.specs.ClauseMembers.{ClauseMember, Item, Private, is_in, item_ids, item_name, members, clause_members, private_ids}
 use Rattle.os_ast.specs.Trees as tree
 use Rattle.os_ast.specs.declared.expr.Name.{Name}
 use Rattle.os_ast.specs.declared.names.Direction.TheVariants as direction
@@ -40,30 +40,30 @@ pub in-without : (id : ℕ) (ds xs : List ℕ) → is_in id (without ds xs) ≡ 
 in-without id ds [] = and-false (not (is_in id ds))
 in-without id ds (x ∷ xs) = in-step id x ds xs (is_in x ds) refl (in-without id ds xs)
 
-pub parts_names-append : (ps qs : List ClausePart) → parts_names (ps ++ qs) ≡ parts_names ps ++ parts_names qs
-parts_names-append [] qs = refl
-parts_names-append (Item d i ∷ ps) qs =
-    ap (λ ids. target_names i.stream ++ join_names i.window ++ ids) (parts_names-append ps qs)
-    ∙ sym (append_assoc (target_names i.stream ++ join_names i.window) (parts_names ps) (parts_names qs))
-parts_names-append (Private n ∷ ps) qs = ap (λ ids. n.id ∷ ids) (parts_names-append ps qs)
+pub members_names-append : (ps qs : List ClauseMember) → members_names (ps ++ qs) ≡ members_names ps ++ members_names qs
+members_names-append [] qs = refl
+members_names-append (Item d i ∷ ps) qs =
+    ap (λ ids. target_names i.stream ++ join_names i.window ++ ids) (members_names-append ps qs)
+    ∙ sym (append_assoc (target_names i.stream ++ join_names i.window) (members_names ps) (members_names qs))
+members_names-append (Private n ∷ ps) qs = ap (λ ids. n.id ∷ ids) (members_names-append ps qs)
 
-pub item_ids-append : (ps qs : List ClausePart) → item_ids (ps ++ qs) ≡ item_ids ps ++ item_ids qs
+pub item_ids-append : (ps qs : List ClauseMember) → item_ids (ps ++ qs) ≡ item_ids ps ++ item_ids qs
 item_ids-append [] qs = refl
 item_ids-append (Item d i ∷ ps) qs = ap (λ ids. (item_name i.stream i.window).id ∷ ids) (item_ids-append ps qs)
 item_ids-append (Private n ∷ ps) qs = item_ids-append ps qs
 
-pub private_ids-append : (ps qs : List ClausePart) → private_ids (ps ++ qs) ≡ private_ids ps ++ private_ids qs
+pub private_ids-append : (ps qs : List ClauseMember) → private_ids (ps ++ qs) ≡ private_ids ps ++ private_ids qs
 private_ids-append [] qs = refl
 private_ids-append (Item d i ∷ ps) qs = private_ids-append ps qs
 private_ids-append (Private n ∷ ps) qs = ap (λ ids. n.id ∷ ids) (private_ids-append ps qs)
 
-pub parts_names-items : (d : Direction) (is : List tree.ClauseItemTree) → parts_names (map (Item d) is) ≡ items_names is
-parts_names-items d [] = refl
-parts_names-items d (i ∷ is) = ap (λ ids. target_names i.stream ++ join_names i.window ++ ids) (parts_names-items d is)
+pub members_names-items : (d : Direction) (is : List tree.ClauseItemTree) → members_names (map (Item d) is) ≡ items_names is
+members_names-items d [] = refl
+members_names-items d (i ∷ is) = ap (λ ids. target_names i.stream ++ join_names i.window ++ ids) (members_names-items d is)
 
-pub parts_names-privates : (ns : List Name) → parts_names (map Private ns) ≡ ids_of ns
-parts_names-privates [] = refl
-parts_names-privates (n ∷ ns) = ap (λ ids. n.id ∷ ids) (parts_names-privates ns)
+pub members_names-privates : (ns : List Name) → members_names (map Private ns) ≡ ids_of ns
+members_names-privates [] = refl
+members_names-privates (n ∷ ns) = ap (λ ids. n.id ∷ ids) (members_names-privates ns)
 
 pub item_ids-items : (d : Direction) (is : List tree.ClauseItemTree) → item_ids (map (Item d) is) ≡ item_names is
 item_ids-items d [] = refl
@@ -162,38 +162,38 @@ items-has id (i ∷ is) =
     (target-has id i.stream) (join-has id i.window))
     (items-has id is)
 
-clause-has : (id : ℕ) (k : tree.ClauseKindTree) → has_clause id k ≡ is_in id (parts_names (clause_parts k))
-clause-has id (tree.Input is) = items-has id is ∙ ap (is_in id) (sym (parts_names-items direction.Reads is))
-clause-has id (tree.Output is) = items-has id is ∙ ap (is_in id) (sym (parts_names-items direction.Writes is))
-clause-has id (tree.Firstprivate ns) = ap (is_in id) (sym (parts_names-privates ns))
+clause-has : (id : ℕ) (k : tree.ClauseKindTree) → has_clause id k ≡ is_in id (members_names (clause_members k))
+clause-has id (tree.Input is) = items-has id is ∙ ap (is_in id) (sym (members_names-items direction.Reads is))
+clause-has id (tree.Output is) = items-has id is ∙ ap (is_in id) (sym (members_names-items direction.Writes is))
+clause-has id (tree.Firstprivate ns) = ap (is_in id) (sym (members_names-privates ns))
 
-clauses-has : (id : ℕ) (cs : List tree.ClauseTree) → has_clauses id cs ≡ is_in id (parts_names (parts cs))
+clauses-has : (id : ℕ) (cs : List tree.ClauseTree) → has_clauses id cs ≡ is_in id (members_names (members cs))
 clauses-has id [] = refl
 clauses-has id (c ∷ cs) =
-    in-or id (parts_names (clause_parts c.kind)) (parts_names (parts cs)) (has_clause id c.kind) (has_clauses id cs) (clause-has id c.kind) (clauses-has id cs)
-    ∙ ap (is_in id) (sym (parts_names-append (clause_parts c.kind) (parts cs)))
+    in-or id (members_names (clause_members c.kind)) (members_names (members cs)) (has_clause id c.kind) (has_clauses id cs) (clause-has id c.kind) (clauses-has id cs)
+    ∙ ap (is_in id) (sym (members_names-append (clause_members c.kind) (members cs)))
 
-clause-calls : (id : ℕ) (k : tree.ClauseKindTree) → clause_calls_item id k ≡ is_in id (item_ids (clause_parts k))
+clause-calls : (id : ℕ) (k : tree.ClauseKindTree) → clause_calls_item id k ≡ is_in id (item_ids (clause_members k))
 clause-calls id (tree.Input is) = ap (is_in id) (sym (item_ids-items direction.Reads is))
 clause-calls id (tree.Output is) = ap (is_in id) (sym (item_ids-items direction.Writes is))
 clause-calls id (tree.Firstprivate ns) = ap (is_in id) (sym (item_ids-privates ns))
 
-clauses-call : (id : ℕ) (cs : List tree.ClauseTree) → calls_item id cs ≡ is_in id (item_ids (parts cs))
+clauses-call : (id : ℕ) (cs : List tree.ClauseTree) → calls_item id cs ≡ is_in id (item_ids (members cs))
 clauses-call id [] = refl
 clauses-call id (c ∷ cs) =
-    in-or id (item_ids (clause_parts c.kind)) (item_ids (parts cs)) (clause_calls_item id c.kind) (calls_item id cs) (clause-calls id c.kind) (clauses-call id cs)
-    ∙ ap (is_in id) (sym (item_ids-append (clause_parts c.kind) (parts cs)))
+    in-or id (item_ids (clause_members c.kind)) (item_ids (members cs)) (clause_calls_item id c.kind) (calls_item id cs) (clause-calls id c.kind) (clauses-call id cs)
+    ∙ ap (is_in id) (sym (item_ids-append (clause_members c.kind) (members cs)))
 
-clause-lists : (id : ℕ) (k : tree.ClauseKindTree) → clause_lists id k ≡ is_in id (private_ids (clause_parts k))
+clause-lists : (id : ℕ) (k : tree.ClauseKindTree) → clause_lists id k ≡ is_in id (private_ids (clause_members k))
 clause-lists id (tree.Input is) = ap (is_in id) (sym (private_ids-items direction.Reads is))
 clause-lists id (tree.Output is) = ap (is_in id) (sym (private_ids-items direction.Writes is))
 clause-lists id (tree.Firstprivate ns) = ap (is_in id) (sym (private_ids-privates ns))
 
-clauses-list : (id : ℕ) (cs : List tree.ClauseTree) → lists id cs ≡ is_in id (private_ids (parts cs))
+clauses-list : (id : ℕ) (cs : List tree.ClauseTree) → lists id cs ≡ is_in id (private_ids (members cs))
 clauses-list id [] = refl
 clauses-list id (c ∷ cs) =
-    in-or id (private_ids (clause_parts c.kind)) (private_ids (parts cs)) (clause_lists id c.kind) (lists id cs) (clause-lists id c.kind) (clauses-list id cs)
-    ∙ ap (is_in id) (sym (private_ids-append (clause_parts c.kind) (parts cs)))
+    in-or id (private_ids (clause_members c.kind)) (private_ids (members cs)) (clause_lists id c.kind) (lists id cs) (clause-lists id c.kind) (clauses-list id cs)
+    ∙ ap (is_in id) (sym (private_ids-append (clause_members c.kind) (members cs)))
 
 stmt-declares : (id : ℕ) (a : tree.StmtTree) → declares id a ≡ is_in id (stmt_ids a)
 stmt-declares id tree.StmtTree.Empty = refl
@@ -239,9 +239,9 @@ mutual
   stmt-has id (tree.Continue m) = refl
   stmt-has id (tree.Return m e) = expr-has id e
   stmt-has id (tree.Task m cs a) =
-      in-or id (parts_names (parts cs)) (without (item_ids (parts cs)) (stmt_names a)) (has_clauses id cs) (not (calls_item id cs) && has_stmt id a)
+      in-or id (members_names (members cs)) (without (item_ids (members cs)) (stmt_names a)) (has_clauses id cs) (not (calls_item id cs) && has_stmt id a)
       (clauses-has id cs)
-      (in-not id (item_ids (parts cs)) (stmt_names a) (calls_item id cs) (has_stmt id a) (clauses-call id cs) (stmt-has id a))
+      (in-not id (item_ids (members cs)) (stmt_names a) (calls_item id cs) (has_stmt id a) (clauses-call id cs) (stmt-has id a))
   stmt-has id (tree.Tick m t arrow e) =
       in-or id (target_names t) (expr_names e) (has_target id t) (has_expr id e) (target-has id t) (expr-has id e)
   stmt-has id (tree.Taskwait m) = refl
@@ -254,21 +254,21 @@ mutual
       (in-not id (stmt_ids a) (stmts_names rest) (declares id a) (has_stmts id rest) (stmt-declares id a) (stmts-have id rest))
 
 -- a name that a task takes from round it
-pub task_has : (id : ℕ) (cs : List tree.ClauseTree) (body : tree.StmtTree) → has_task id cs body ≡ is_in id (task_names (parts cs) body)
+pub task_has : (id : ℕ) (cs : List tree.ClauseTree) (body : tree.StmtTree) → has_task id cs body ≡ is_in id (task_names (members cs) body)
 task_has id cs body =
-    in-or id (private_ids (parts cs)) (without (item_ids (parts cs)) (stmt_names body)) (lists id cs) (not (calls_item id cs) && has_stmt id body)
+    in-or id (private_ids (members cs)) (without (item_ids (members cs)) (stmt_names body)) (lists id cs) (not (calls_item id cs) && has_stmt id body)
     (clauses-list id cs)
-    (in-not id (item_ids (parts cs)) (stmt_names body) (calls_item id cs) (has_stmt id body) (clauses-call id cs) (stmt-has id body))
+    (in-not id (item_ids (members cs)) (stmt_names body) (calls_item id cs) (has_stmt id body) (clauses-call id cs) (stmt-has id body))
 
-clause-ids : (k : tree.ClauseKindTree) → clause_item_ids k ≡ item_ids (clause_parts k)
+clause-ids : (k : tree.ClauseKindTree) → clause_item_ids k ≡ item_ids (clause_members k)
 clause-ids (tree.Input is) = sym (item_ids-items direction.Reads is)
 clause-ids (tree.Output is) = sym (item_ids-items direction.Writes is)
 clause-ids (tree.Firstprivate ns) = sym (item_ids-privates ns)
 
 -- the names of items, a clause at a time
-pub clauses_ids : (cs : List tree.ClauseTree) → clauses_item_ids cs ≡ item_ids (parts cs)
+pub clauses_ids : (cs : List tree.ClauseTree) → clauses_item_ids cs ≡ item_ids (members cs)
 clauses_ids [] = refl
 clauses_ids (c ∷ cs) =
     ap (λ ids. ids ++ clauses_item_ids cs) (clause-ids c.kind)
-    ∙ ap (λ ids. item_ids (clause_parts c.kind) ++ ids) (clauses_ids cs)
-    ∙ sym (item_ids-append (clause_parts c.kind) (parts cs))
+    ∙ ap (λ ids. item_ids (clause_members c.kind) ++ ids) (clauses_ids cs)
+    ∙ sym (item_ids-append (clause_members c.kind) (members cs))

@@ -2,7 +2,7 @@
 use Rattle.std.specs.Prelude.{ℕ, ◌==◌, ◌&&◌, ◌||◌, not, Bool, false, List, [], ◌∷◌, ◌++◌, Option, Some, None}
 use Rattle.cddf_meaning_plain_tasks.specs.Sought.{ids_of, item_names}
 use Rattle.os_ast.specs.FreeNames.{declared_ids, start_ids}
-use Rattle.os_ast.specs.ClauseParts.{is_in}
+use Rattle.os_ast.specs.ClauseMembers.{is_in}
 use Rattle.os_ast.specs.Trees as tree
 
 abbrev mutual

@@ -3,7 +3,7 @@ use Rattle.std.specs.Prelude.{ℕ, List, [], ◌∷◌, ◌++◌, map}
 use Rattle.cddf_meaning.specs.Tasks.{Task}
 use Rattle.cddf_meaning_plain_tasks.specs.declared.found_task.FoundTask.{FoundTask}
 use Rattle.os_ast.specs.FreeNames.{target_names, join_names}
-use Rattle.os_ast.specs.ClauseParts.{item_name, parts}
+use Rattle.os_ast.specs.ClauseMembers.{item_name, members}
 use Rattle.os_ast.specs.Trees as tree
 use Rattle.os_ast.specs.Views.{clause_tree, stmt_tree}
 use Rattle.os_ast.specs.declared.expr.Name.{Name}
@@ -27,7 +27,7 @@ items_names (i ∷ is) = target_names i.stream ++ join_names i.window ++ items_n
 abbrev pub task_of : FoundTask → Task
 task_of f = record {
   mark = f.site.now.mark;
-  parts = parts (map clause_tree f.site.now.clauses);
+  members = members (map clause_tree f.site.now.clauses);
   body = stmt_tree f.site.now.body;
   captured = f.captured;
   items = f.items;

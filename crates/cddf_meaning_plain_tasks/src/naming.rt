@@ -2,7 +2,7 @@
 
 ghost use Rattle.std.specs.Prelude.{◌≡◌, map, option_map};
 ghost use Rattle.os_ast.specs.FreeNames.{declared_ids, start_ids};
-ghost use Rattle.os_ast.specs.ClauseParts.{is_in, item_name};
+ghost use Rattle.os_ast.specs.ClauseMembers.{is_in, item_name};
 ghost use Rattle.os_ast.specs.Trees as tree;
 ghost use Rattle.os_ast.specs.Views.{args_tree, change_tree, clause_item_tree, clause_kind_tree, clause_tree, declarator_tree};
 ghost use Rattle.os_ast.specs.Views.{expr_tree, index_tree, join_tree, links_tree, start_tree, stmt_tree, stmts_tree, target_tree};

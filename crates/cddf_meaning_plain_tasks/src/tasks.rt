@@ -4,7 +4,7 @@ ghost use Rattle.std.specs.Prelude.{◌≡◌, ◌++◌, if◌then◌else◌, Li
 ghost use Rattle.cddf_meaning.specs.Program.{main_at, main_behind, main_of};
 ghost use Rattle.os_ast.specs.FreeNames.{task_names};
 ghost use Rattle.os_ast.specs.Names.{main_id};
-ghost use Rattle.os_ast.specs.ClauseParts.{is_in, parts};
+ghost use Rattle.os_ast.specs.ClauseMembers.{is_in, members};
 ghost use Rattle.os_ast.specs.Trees as tree;
 ghost use Rattle.os_ast.specs.Unsigned.{is_unsigned};
 ghost use Rattle.os_ast.specs.Views.{clause_tree, declarator_tree, function_tree, item_tree, start_tree, stmt_tree, stmts_tree};
@@ -93,14 +93,14 @@ fn scalars(alloc: Global, known: &[KnownName]) -> Result<Vec<u32>, Memory>
 /// Whether a task takes this name from round it.
 #[tactic(auto, using(crate::proofs::HasNames::task_has))]
 fn captures(site: &TaskSite, id: u32) -> bool
-    ensures { result ≡ is_in id (task_names (parts (map clause_tree site.now.clauses)) (stmt_tree site.now.body)) }
+    ensures { result ≡ is_in id (task_names (members (map clause_tree site.now.clauses)) (stmt_tree site.now.body)) }
 {
     in_task(site, id)
 }
 
 /// Adds a scalar, where a task captures it.
 fn capture(site: &TaskSite, id: u32, captured: &mut List<u32>) -> Result<(), Memory>
-    ensures { OnOk result (captured.new ≡ captured.old ++ (if is_in id (task_names (parts (map clause_tree site.now.clauses)) (stmt_tree site.now.body))
+    ensures { OnOk result (captured.new ≡ captured.old ++ (if is_in id (task_names (members (map clause_tree site.now.clauses)) (stmt_tree site.now.body))
         then id
         ∷ [] else [])) }
 {
@@ -112,7 +112,7 @@ fn capture(site: &TaskSite, id: u32, captured: &mut List<u32>) -> Result<(), Mem
 
 /// The names of the scalars that a task captures.
 fn captured(alloc: Global, site: &TaskSite, known: &[KnownName]) -> Result<List<u32>, Memory>
-    ensures { IfOk result (λ ids. ids ≡ among (task_names (parts (map clause_tree site.now.clauses)) (stmt_tree site.now.body))
+    ensures { IfOk result (λ ids. ids ≡ among (task_names (members (map clause_tree site.now.clauses)) (stmt_tree site.now.body))
         (with_all_known [] known.now)) }
 {
     let scalars = scalars(alloc, known)?;

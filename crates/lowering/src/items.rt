@@ -2,7 +2,7 @@
 
 ghost use Rattle.std.specs.Prelude.{◌≡◌, OnOk, map, option_map};
 ghost use Rattle.lowering_draft.specs.Emission.Tasks.{burst_code, item_code, items_code, join_code, stream_code, tick_code};
-ghost use Rattle.os_ast.specs.ClauseParts.{parts};
+ghost use Rattle.os_ast.specs.ClauseMembers.{members};
 ghost use Rattle.os_ast.specs.Views.{clause_item_tree, clause_tree, expr_tree, index_tree, join_tree, target_tree};
 ghost use Rattle.lowering_relation.specs.Names.{told_at};
 
@@ -19,7 +19,7 @@ pub(crate) fn emit_items(
     told: &Told<'_>,
     clauses: &List<Clause>,
 ) -> Result<(), Memory>
-    ensures { OnOk result (draft.new ≡ items_code (told_at told.now.names.now) (parts (map clause_tree clauses.now)) draft.old) }
+    ensures { OnOk result (draft.new ≡ items_code (told_at told.now.names.now) (members (map clause_tree clauses.now)) draft.old) }
 {
     visit_items(&ItemCode, draft, told, clauses)
 }

@@ -6,7 +6,7 @@ ghost use Rattle.lowering_draft.specs.Emission.Changes.{change_code};
 ghost use Rattle.lowering_draft.specs.Emission.Declarators.{start_code};
 ghost use Rattle.lowering_draft.specs.Emission.Tasks.{items_code};
 ghost use Rattle.lowering_draft.specs.Emission.Statements.{begin_code, block_code, closed, end_of, jump_on, next_behind, opened, stmt_code, test_code};
-ghost use Rattle.os_ast.specs.ClauseParts.{parts};
+ghost use Rattle.os_ast.specs.ClauseMembers.{members};
 ghost use Rattle.os_ast.specs.Views.{change_tree, clause_tree, expr_tree, start_tree, stmt_tree, stmts_tree};
 ghost use Rattle.lowering_relation.specs.Names.{told_at};
 
@@ -137,7 +137,7 @@ fn emit_task(
     clauses: &List<Clause>,
     next: Option<Label>,
 ) -> Result<(), Memory>
-    ensures { OnOk result (draft.new ≡ jump_on next (with_spawn (items_code (told_at told.now.names.now) (parts (map clause_tree clauses.now)) draft.old))) }
+    ensures { OnOk result (draft.new ≡ jump_on next (with_spawn (items_code (told_at told.now.names.now) (members (map clause_tree clauses.now)) draft.old))) }
 {
     emit_items(draft, told, clauses)?;
     draft.spawn()?;

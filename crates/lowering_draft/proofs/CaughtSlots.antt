@@ -2,13 +2,13 @@
 use Rattle.std.proofs.Common.{◌≡◌, ◌∙◌, ℕ, ◌+◌, ◌≤◌, List, [], ◌∷◌, ◌++◌, length, ap, sym, refl, arith}
 use Rattle.os_ast.specs.Captured.{captured, slots_of}
 use Rattle.os_ast.specs.Names.{Scope, enter, in_loop, typed}
-use Rattle.os_ast.specs.Notes.Clauses.{captured_in, clauses_notes, in_task, in_task_body, parts_notes}
+use Rattle.os_ast.specs.Notes.Clauses.{captured_in, clauses_notes, in_task, in_task_body, members_notes}
 use Rattle.os_ast.specs.Notes.Declarators.{after_start, declarators_notes, start_notes}
 use Rattle.os_ast.specs.Notes.Expressions.{expr_notes, step_notes, value_notes}
 use Rattle.os_ast.specs.Notes.Kinds.{Global, Note, Task}
 use Rattle.os_ast.specs.Notes.Programs.{after_item, in_body, in_function, item_notes, items_notes, param_list, params_notes, after_param}
 use Rattle.os_ast.specs.Notes.Statements.{after_stmt, stmt_notes, stmts_notes}
-use Rattle.os_ast.specs.ClauseParts.{count_items, parts}
+use Rattle.os_ast.specs.ClauseMembers.{count_items, members}
 use Rattle.os_ast.specs.Trees as tree
 use Rattle.os_ast.specs.Violations.{captures, main_task}
 use Rattle.os_ast.specs.declared.expr.Mark.{Mark}
@@ -76,7 +76,7 @@ mutual
   stmt_uses (tree.Continue m) s room = omega arith
   stmt_uses (tree.Return m e) s room = none_paid (stmt_notes s (tree.Return m e)) (none_expr e s)
   stmt_uses (tree.Task m cs a) s room =
-      let ps = parts cs in
+      let ps = members cs in
       let inner = in_task_body s ps a in
       let x = clauses_notes s m ps a in
       let y = stmt_notes inner a in
@@ -84,7 +84,7 @@ mutual
       let note = Task s m (count_items ps) (captured s.entries ps a) ∷ [] in
       let task : inner.owner ≡ owner.OfTask = items_owner ps s (in_task s (captured_in s.owner slots)) 0 in
       let other : IsOther inner.owner = λ e. let z : owner.OfTask ≡ owner.OfMain = sym task ∙ e in absurd (cc) in
-      let own : captures x ≡ main_task s.owner slots ++ [] = captures_both (parts_notes s [] ps) note ∙ ap (λ cs. cs ++ captures note) (none_parts ps s []) in
+      let own : captures x ≡ main_task s.owner slots ++ [] = captures_both (members_notes s [] ps) note ∙ ap (λ cs. cs ++ captures note) (none_parts ps s []) in
       omega (
         arith,
         caught_few s (stmt_weight (tree.Task m cs a)) m ps a room,

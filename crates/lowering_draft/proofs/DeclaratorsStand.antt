@@ -13,7 +13,7 @@ use Rattle.lowering_draft.specs.declared.draft.Draft.{Draft}
 use Rattle.os_ast.specs.FreeNames.{expr_names}
 use Rattle.os_ast.specs.Leveled as leveled
 use Rattle.os_ast.specs.Leveled.{AreAll, IsDeclarator, IsExpr, IsIndex, IsOptional, IsStart}
-use Rattle.os_ast.specs.ClauseParts.{is_in}
+use Rattle.os_ast.specs.ClauseMembers.{is_in}
 use Rattle.os_ast.specs.Trees as tree
 use Rattle.os_ast.specs.declared.names.Resolved.{Resolved}
 use Rattle.os_ast.specs.declared.names.What.{What}

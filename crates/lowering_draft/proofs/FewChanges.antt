@@ -12,7 +12,7 @@ use Rattle.lowering_draft.specs.Emission.Declarators.{cleared_code, declarators_
 use Rattle.lowering_draft.specs.Emission.Expressions.{expr_code}
 use Rattle.lowering_draft.specs.declared.draft.Draft.{Draft}
 use Rattle.os_ast.specs.FreeNames.{expr_names}
-use Rattle.os_ast.specs.ClauseParts.{is_in}
+use Rattle.os_ast.specs.ClauseMembers.{is_in}
 use Rattle.os_ast.specs.Spelling as spelling
 use Rattle.os_ast.specs.Spelling.{Symbol, Printer, bare, marked, attribute, change, declarator, each, expr, first_value, index, listed, optional, start, target, ◌⨾◌, punct}
 use Rattle.os_ast.specs.Operators.{assign_mark, step_mark}

@@ -17,7 +17,7 @@ use Rattle.lowering_draft.specs.declared.draft.Draft.{Draft}
 use Rattle.lowering_draft.specs.declared.draft.Label.{Label}
 use Rattle.lowering_draft.specs.declared.exits.Exits.{Exits}
 use Rattle.os_ast.proofs.Prints.{prints_stmt}
-use Rattle.os_ast.specs.ClauseParts.{parts}
+use Rattle.os_ast.specs.ClauseMembers.{members}
 use Rattle.os_ast.specs.Spelling as spelling
 use Rattle.os_ast.specs.Spelling.{Symbol, Printer, bare, change, clause, each, expr, optional, params, stmt, stmts, ◌⨾◌}
 use Rattle.os_ast.specs.Trees as tree
@@ -165,7 +165,7 @@ module _ (tells : ℕ → Resolved) where
     stmt_pays (tree.Return m e) x next d rest =
         omega (arith, expr_pays tells e d (punct (kind.Punct puncts.Semicolon) rest), length-instr (expr_code tells e d) x.leaves)
     stmt_pays (tree.Task m cs a) x next d rest =
-        let made = items_code tells (parts cs) d in
+        let made = items_code tells (members cs) d in
         omega (
           arith,
           clauses_pay tells cs d (punct kind.PragmaEnd (stmt a rest)),

@@ -3,12 +3,12 @@ use Rattle.std.proofs.Common.{◌≡◌, ℕ, ◌+◌, ◌*◌, ◌≤◌, Bool,
 use Rattle.std.specs.Prelude.{pos}
 use Rattle.lowering_draft.proofs.ExpressionsStand.{length-instr}
 use Rattle.lowering_draft.proofs.FewExpressions.{expr_pays}
-use Rattle.lowering_draft.proofs.Parts.{items_code-append}
+use Rattle.lowering_draft.proofs.ClauseItems.{items_code-append}
 use Rattle.lowering_draft.proofs.Paying.{Pays, length-instrs}
 use Rattle.lowering_draft.specs.Emission.Expressions.{expr_code}
 use Rattle.lowering_draft.specs.Emission.Tasks.{burst_code, item_code, items_code, join_code, stream_code, tick_code}
 use Rattle.lowering_draft.specs.declared.draft.Draft.{Draft}
-use Rattle.os_ast.specs.ClauseParts.{Item, Private, parts, clause_parts, target_name}
+use Rattle.os_ast.specs.ClauseMembers.{Item, Private, members, clause_members, target_name}
 use Rattle.os_ast.specs.Spelling as spelling
 use Rattle.os_ast.specs.Spelling.{Symbol, Printer, bare, marked, clause, clause_item, clause_kind, comma, each, expr, index, join, listed, name, optional, punct, target, ◌⨾◌}
 use Rattle.os_ast.specs.Trees as tree
@@ -79,7 +79,7 @@ module _ (tells : ℕ → Resolved) where
   privates_code [] d = refl
   privates_code (n ∷ ns) d = privates_code ns d
 
-  kind_pays : (k : tree.ClauseKindTree) → Pays (items_code tells (clause_parts k)) (clause_kind k) 0
+  kind_pays : (k : tree.ClauseKindTree) → Pays (items_code tells (clause_members k)) (clause_kind k) 0
   kind_pays (tree.Input is) d rest = omega (arith, listed_pay puncts.ShiftRight direction.Reads is d (bare (kind.Punct puncts.CloseParen) ∷ rest))
   kind_pays (tree.Output is) d rest = omega (arith, listed_pay puncts.ShiftLeft direction.Writes is d (bare (kind.Punct puncts.CloseParen) ∷ rest))
   kind_pays (tree.Firstprivate ns) d rest =
@@ -89,14 +89,14 @@ module _ (tells : ℕ → Resolved) where
   comma_grows true rest = omega arith
   comma_grows false rest = omega arith
 
-  pub clauses_pay : (cs : List tree.ClauseTree) → Pays (items_code tells (parts cs)) (each clause cs) 0
+  pub clauses_pay : (cs : List tree.ClauseTree) → Pays (items_code tells (members cs)) (each clause cs) 0
   clauses_pay [] d rest = omega arith
   clauses_pay (c ∷ cs) d rest =
       let more = each clause cs rest in
-      let made = items_code tells (clause_parts c.kind) d in
+      let made = items_code tells (clause_members c.kind) d in
       omega (
         arith,
-        ap (λ (e : Draft). length e.instrs) (items_code-append tells (clause_parts c.kind) (parts cs) d),
+        ap (λ (e : Draft). length e.instrs) (items_code-append tells (clause_members c.kind) (members cs) d),
         comma_grows c.comma (clause_kind c.kind more),
         kind_pays c.kind d more,
         clauses_pay cs made rest,

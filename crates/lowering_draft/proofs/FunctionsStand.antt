@@ -18,7 +18,7 @@ use Rattle.os_ast.specs.Leveled.{AreAll, AreStmts, IsItem, cons}
 use Rattle.os_ast.specs.Names.{Scope, main_id}
 use Rattle.os_ast.specs.Notes.Kinds.{Note}
 use Rattle.os_ast.specs.Notes.Programs.{after_item, in_body, item_notes, items_notes, param_list}
-use Rattle.os_ast.specs.ClauseParts.{is_in}
+use Rattle.os_ast.specs.ClauseMembers.{is_in}
 use Rattle.os_ast.specs.Trees as tree
 use Rattle.os_ast.specs.declared.names.Owner.TheVariants as owner
 use Rattle.os_ast.specs.declared.names.Resolved.{Resolved}

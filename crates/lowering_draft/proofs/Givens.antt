@@ -4,7 +4,7 @@ use Rattle.std.proofs.lemmas.Option.{none-some, same_Some}
 use Rattle.lowering_draft.specs.Given.{HasLeveledExprs, IsItem, joined, private_name}
 use Rattle.os_ast.specs.Leveled as leveled
 use Rattle.os_ast.specs.Leveled.{AreAll, AreClauses, AreListed, IsClause, IsClauseItem, IsClauseKind, IsDeclarator, IsExpr, IsHeadDeclarator, IsIndex, IsOptional}
-use Rattle.os_ast.specs.ClauseParts.{Item, Private, parts, clause_parts}
+use Rattle.os_ast.specs.ClauseMembers.{Item, Private, members, clause_members}
 use Rattle.os_ast.specs.Trees as tree
 use Rattle.os_ast.specs.declared.expr.Name.{Name}
 use Rattle.os_ast.specs.declared.names.Direction.{Direction}
@@ -62,15 +62,15 @@ privates_given : (ns : List Name) → AreAll IsItem (map Private ns)
 privates_given [] = leveled.nil
 privates_given (n ∷ ns) = leveled.cons private_name (privates_given ns)
 
-kind_given : {k : tree.ClauseKindTree} → IsClauseKind k → AreAll IsItem (clause_parts k)
+kind_given : {k : tree.ClauseKindTree} → IsClauseKind k → AreAll IsItem (clause_members k)
 kind_given (leveled.input (leveled.listed is are)) = leveled.cons (item_given direction.Reads is) (items_given direction.Reads are)
 kind_given (leveled.output (leveled.listed is are)) = leveled.cons (item_given direction.Writes is) (items_given direction.Writes are)
 kind_given (leveled.firstprivate {n} {ns}) = leveled.cons private_name (privates_given ns)
 
-more_given : {cs : List tree.ClauseTree} → AreAll IsClause cs → AreAll IsItem (parts cs)
+more_given : {cs : List tree.ClauseTree} → AreAll IsClause cs → AreAll IsItem (members cs)
 more_given leveled.nil = leveled.nil
 more_given (leveled.cons (leveled.clause is) are) = append_all (kind_given is) (more_given are)
 
-pub clauses_given : {cs : List tree.ClauseTree} → AreClauses cs → AreAll IsItem (parts cs)
+pub clauses_given : {cs : List tree.ClauseTree} → AreClauses cs → AreAll IsItem (members cs)
 clauses_given leveled.no_clauses = leveled.nil
 clauses_given (leveled.clauses is are) = append_all (kind_given is) (more_given are)

@@ -11,7 +11,7 @@ use Rattle.lowering_draft.specs.Emission.Statements.{StmtPart, begin_code, block
 use Rattle.lowering_draft.specs.declared.draft.Draft.{Draft}
 use Rattle.lowering_draft.specs.declared.draft.Label.{Label}
 use Rattle.lowering_draft.specs.declared.exits.Exits.{Exits}
-use Rattle.os_ast.specs.ClauseParts.{parts}
+use Rattle.os_ast.specs.ClauseMembers.{members}
 use Rattle.os_ast.specs.Trees as tree
 use Rattle.os_ast.specs.declared.names.Resolved.{Resolved}
 use Rattle.os_code.specs.declared.instr.Instr.TheVariants.{Drop, Jump, Turn}
@@ -88,7 +88,7 @@ module _ (tells : ℕ → Resolved) where
     stmt_kept (tree.Break m) x next d = keeps_instr (kept d) (Jump x.broke.number)
     stmt_kept (tree.Continue m) x next d = keeps_instr (kept d) (Jump x.continued.number)
     stmt_kept (tree.Return m e) x next d = keeps_instr (expr_kept tells e d) x.leaves
-    stmt_kept (tree.Task m cs a) x next d = jump_kept next (keeps_spawn (items_kept tells (parts cs) d))
+    stmt_kept (tree.Task m cs a) x next d = jump_kept next (keeps_spawn (items_kept tells (members cs) d))
     stmt_kept (tree.Tick m t arrow e) x next d = jump_kept next (tick_kept tells t arrow.line e d)
     stmt_kept (tree.Taskwait m) x next d = jump_kept next (kept d)
 

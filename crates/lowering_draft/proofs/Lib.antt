@@ -26,7 +26,7 @@ pub mod LoopsStand
 pub mod MainAlone
 pub mod Numbering
 pub mod Paid
-pub mod Parts
+pub mod ClauseItems
 pub mod Paying
 mod Placed
 pub mod ProgramLaws

@@ -9,7 +9,7 @@ use Rattle.os_ast.specs.Notes.Expressions.{expr_notes, step_notes, value_notes}
 use Rattle.os_ast.specs.Notes.Kinds.{Global, Note}
 use Rattle.os_ast.specs.Notes.Programs.{after_item, after_items, in_body, in_function, item_notes, items_notes, param_list, params_notes}
 use Rattle.os_ast.specs.Notes.Statements.{after_stmt, after_stmts, stmt_notes, stmts_notes}
-use Rattle.os_ast.specs.ClauseParts.{parts}
+use Rattle.os_ast.specs.ClauseMembers.{members}
 use Rattle.os_ast.specs.Trees as tree
 use Rattle.os_ast.specs.declared.names.Owner.{Owner}
 use Rattle.os_ast.specs.declared.names.Owner.TheVariants as owner
@@ -88,7 +88,7 @@ module _ (rs : List Resolved) (ordered : InOrder rs) where
     stmt_paid (tree.Continue m) s lawful tells = omega arith
     stmt_paid (tree.Return m e) s lawful tells = omega arith
     stmt_paid (tree.Task m cs a) s lawful tells =
-        let ps = parts cs in
+        let ps = members cs in
         let slots = captured_in s.owner (slots_of (captured s.entries ps a)) in
         let inner = in_task_body s ps a in
         let x = clauses_notes s m ps a in

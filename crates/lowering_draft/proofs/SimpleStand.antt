@@ -18,7 +18,7 @@ use Rattle.lowering_draft.specs.Going.{IsLeave, ends, returns}
 use Rattle.lowering_draft.specs.declared.draft.Draft.{Draft}
 use Rattle.os_ast.specs.Leveled as leveled
 use Rattle.os_ast.specs.Leveled.{AreAll, AreArgs, AreClauses, IsExpr, IsTarget}
-use Rattle.os_ast.specs.ClauseParts.{parts}
+use Rattle.os_ast.specs.ClauseMembers.{members}
 use Rattle.os_ast.specs.Trees as tree
 use Rattle.os_ast.specs.declared.expr.Mark.{Mark}
 use Rattle.os_ast.specs.declared.expr.Name.{Name}
@@ -71,15 +71,15 @@ module _ (code : Parts) (place_of : ℕ → ℕ) (b : Body) where
 
   pub task_stands : (m : Mark) (cs : List tree.ClauseTree) → AreClauses cs → (a : tree.StmtTree) → Goes code place_of b (tree.Task m cs a)
   task_stands m cs is a x leaves next d are becomes =
-      let made = items_code b.tells (parts cs) d in
+      let made = items_code b.tells (members cs) d in
       let number : task_index b.tasks m ≡ Some made.spawned =
-      are 0 (record { mark = m; parts = parts cs; body = a }) refl ∙ ap Some (omega (arith, items_spawned b.tells (parts cs) d)) in
+      are 0 (record { mark = m; members = members cs; body = a }) refl ∙ ap Some (omega (arith, items_spawned b.tells (members cs) d)) in
       jump_stands code place_of (StmtAt code place_of b (tree.Task m cs a) x) (length d.instrs) next (with_spawn made)
       (λ spawned. (
         made.spawned,
         length made.instrs,
         number,
-        items_stand b.tells (parts cs) (clauses_given is) d (back (keeps_spawn (kept made)) spawned),
+        items_stand b.tells (members cs) (clauses_given is) d (back (keeps_spawn (kept made)) spawned),
         spawn_stands made spawned,
         refl,
       )) becomes

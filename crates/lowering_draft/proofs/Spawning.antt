@@ -14,7 +14,7 @@ use Rattle.lowering_draft.specs.declared.exits.Exits.{Exits}
 use Rattle.cddf_meaning.specs.Operators.{step_operator}
 use Rattle.cddf_meaning.specs.ExpressionTypes.{type_of_two}
 use Rattle.os_ast.specs.FreeNames.{expr_names}
-use Rattle.os_ast.specs.ClauseParts.{ClausePart, Item, Private, is_in, parts}
+use Rattle.os_ast.specs.ClauseMembers.{ClauseMember, Item, Private, is_in, members}
 use Rattle.os_ast.specs.Trees as tree
 use Rattle.os_ast.specs.declared.expr.Binary.{Binary}
 use Rattle.os_ast.specs.declared.expr.Binary.TheVariants as binary
@@ -200,7 +200,7 @@ module _ (tells : ℕ → Resolved) where
   join_spawned r None d = refl
   join_spawned r (Some j) d = burst_spawned r (tells j.name.mark.place).what j.burst d
 
-  pub items_spawned : (ps : List ClausePart) → SpawnsNothing (items_code tells ps)
+  pub items_spawned : (ps : List ClauseMember) → SpawnsNothing (items_code tells ps)
   items_spawned [] d = refl
   items_spawned (Private n ∷ ps) d = items_spawned ps d
   items_spawned (Item r i ∷ ps) d =
@@ -289,8 +289,8 @@ module _ (tells : ℕ → Resolved) where
     stmt_spawned (tree.Continue m) x next d = omega arith
     stmt_spawned (tree.Return m e) x next d = omega (arith, expr_spawned tells e d)
     stmt_spawned (tree.Task m cs a) x next d =
-        let made = items_code tells (parts cs) d in
-        omega (arith, jump_spawned next (with_spawn made), items_spawned tells (parts cs) d)
+        let made = items_code tells (members cs) d in
+        omega (arith, jump_spawned next (with_spawn made), items_spawned tells (members cs) d)
     stmt_spawned (tree.Tick m t arrow e) x next d = omega (arith, jump_spawned next (tick_code tells t arrow.line e d), tick_spawned tells t arrow.line e d)
     stmt_spawned (tree.Taskwait m) x next d = omega (arith, jump_spawned next d)
 

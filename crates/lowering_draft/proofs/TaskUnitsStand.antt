@@ -44,7 +44,7 @@ module _
       let within = stmt_small owner.OfTask (size_by tells) (size_small tells) t.body in
       let after = with_task tells captured t made in
       let b = in_main tells [] in
-      let site : Site = record { unit = length made.units; line = t.mark.line; captured = caught; items = site_items tells t.parts } in
+      let site : Site = record { unit = length made.units; line = t.mark.line; captured = caught; items = site_items tells t.members } in
       let framing =
       framed code place_of b (stmt_code tells t.body) (tasks_of t.body) (HasStmt code b t.body) (stmt_kept tells t.body)
       (statements_law code place_of b t.body alone.leveled) ends (End ∷ []) refl

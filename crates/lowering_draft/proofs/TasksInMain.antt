@@ -7,13 +7,13 @@ use Rattle.os_ast.specs.Captured.{captured, slots_of}
 use Rattle.os_ast.specs.Leveled.{AreAll, AreStmts, IsItem, IsStmt, cons}
 use Rattle.os_ast.specs.Limits.{captured_limit, items_limit}
 use Rattle.os_ast.specs.Names.{Scope, enter, in_loop, in_unit, main_id, typed}
-use Rattle.os_ast.specs.Notes.Clauses.{captured_in, clauses_notes, in_task, in_task_body, parts_notes}
+use Rattle.os_ast.specs.Notes.Clauses.{captured_in, clauses_notes, in_task, in_task_body, members_notes}
 use Rattle.os_ast.specs.Notes.Declarators.{after_declarators, after_start, declarators_notes, start_notes}
 use Rattle.os_ast.specs.Notes.Expressions.{expr_notes, place_notes, step_notes, value_notes}
 use Rattle.os_ast.specs.Notes.Kinds.{Global, Note, Task}
 use Rattle.os_ast.specs.Notes.Programs.{after_item, after_param, in_body, in_function, item_notes, items_notes, param_list, params_notes, round_body}
 use Rattle.os_ast.specs.Notes.Statements.{after_stmt, stmt_notes, stmts_notes}
-use Rattle.os_ast.specs.ClauseParts.{ClausePart, count_items, parts}
+use Rattle.os_ast.specs.ClauseMembers.{ClauseMember, count_items, members}
 use Rattle.os_ast.specs.Rules.{is_main_body}
 use Rattle.os_ast.specs.Trees as tree
 use Rattle.os_ast.specs.Violations.{captures, main_task}
@@ -36,9 +36,9 @@ pragma_owner owner.OfMain h = refl
 pragma_owner owner.OfFunction h = absurd (cc)
 pragma_owner owner.OfTask h = absurd (cc)
 
-module _ (s : Scope) (m : Mark) (ps : List ClausePart) (a : tree.StmtTree) (lawful : AreLawful (clauses_notes s m ps a)) where
+module _ (s : Scope) (m : Mark) (ps : List ClauseMember) (a : tree.StmtTree) (lawful : AreLawful (clauses_notes s m ps a)) where
   own_note : AreLawful (Task s m (count_items ps) (captured s.entries ps a) ∷ [])
-  own_note = lawful-rest (parts_notes s [] ps) (Task s m (count_items ps) (captured s.entries ps a) ∷ []) lawful
+  own_note = lawful-rest (members_notes s [] ps) (Task s m (count_items ps) (captured s.entries ps a) ∷ []) lawful
 
   in_main : s.owner ≡ owner.OfMain
   in_main = pragma_owner s.owner own_note.0.1.1.1.1.1.1.1.0
@@ -77,7 +77,7 @@ mutual
   no_tasks (tree.Continue m) s other lawful = refl
   no_tasks (tree.Return m e) s other lawful = refl
   no_tasks (tree.Task m cs a) s other lawful =
-      absurd (other (in_main s m (parts cs) a (lawful-first (clauses_notes s m (parts cs) a) (stmt_notes (in_task_body s (parts cs) a) a) lawful)))
+      absurd (other (in_main s m (members cs) a (lawful-first (clauses_notes s m (members cs) a) (stmt_notes (in_task_body s (members cs) a) a) lawful)))
   no_tasks (tree.Tick m t arrow e) s other lawful = refl
   no_tasks (tree.Taskwait m) s other lawful = refl
 
@@ -151,20 +151,20 @@ mutual
   match_stmt IsStmt.continue s own lawful = tt
   match_stmt (IsStmt.return {e = e} _) s own lawful = subst (Match []) (sym (none_expr e s)) tt
   match_stmt (IsStmt.task {m = mark} {cs = cs} {s = a} _ is) s own lawful =
-      let inner = in_task_body s (parts cs) a in
-      let x = clauses_notes s mark (parts cs) a in
+      let inner = in_task_body s (members cs) a in
+      let x = clauses_notes s mark (members cs) a in
       let y = stmt_notes inner a in
-      let note = Task s mark (count_items (parts cs)) (captured s.entries (parts cs) a) ∷ [] in
-      let slots = slots_of (captured s.entries (parts cs) a) in
-      let task : inner.owner ≡ owner.OfTask = items_owner (parts cs) s (in_task s (captured_in s.owner slots)) 0 in
+      let note = Task s mark (count_items (members cs)) (captured s.entries (members cs) a) ∷ [] in
+      let slots = slots_of (captured s.entries (members cs) a) in
+      let task : inner.owner ≡ owner.OfTask = items_owner (members cs) s (in_task s (captured_in s.owner slots)) 0 in
       let other : IsOther inner.owner = λ e. let z : owner.OfTask ≡ owner.OfMain = sym task ∙ e in absurd (cc) in
       let e : captures (x ++ y) ≡ slots ∷ [] =
       captures_both x y ∙ ap (λ cs. captures x ++ cs) (none_stmt a inner other)
       ∙ ap (λ cs. cs ++ [])
-      (captures_both (parts_notes s [] (parts cs)) note ∙ ap (λ cs. cs ++ captures note) (none_parts (parts cs) s [])
+      (captures_both (members_notes s [] (members cs)) note ∙ ap (λ cs. cs ++ captures note) (none_parts (members cs) s [])
       ∙ ap (λ o. main_task o slots ++ []) own) in
-      subst (Match (record { mark = mark; parts = parts cs; body = a } ∷ [])) (sym e)
-      (record { leveled = is; alone = no_tasks a inner other (lawful-rest x y lawful); few = few_captured s mark (parts cs) a (lawful-first x y lawful) }, tt)
+      subst (Match (record { mark = mark; members = members cs; body = a } ∷ [])) (sym e)
+      (record { leveled = is; alone = no_tasks a inner other (lawful-rest x y lawful); few = few_captured s mark (members cs) a (lawful-first x y lawful) }, tt)
   match_stmt (IsStmt.tick {m = mark} {t = t} {e = e} _ _) s own lawful =
       subst (Match []) (sym
       (none_both (place_notes s (role.Flow direction.Reads) t) (expr_notes s e) (none_place t s (role.Flow direction.Reads)) (none_expr e s))) tt

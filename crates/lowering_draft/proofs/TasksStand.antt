@@ -12,7 +12,7 @@ use Rattle.lowering_draft.specs.Given.{IsItem, joined}
 use Rattle.lowering_draft.specs.declared.draft.Draft.{Draft}
 use Rattle.os_ast.specs.Leveled as leveled
 use Rattle.os_ast.specs.Leveled.{AreAll, IsExpr, IsTarget}
-use Rattle.os_ast.specs.ClauseParts.{ClausePart, Item, Private, target_name}
+use Rattle.os_ast.specs.ClauseMembers.{ClauseMember, Item, Private, target_name}
 use Rattle.os_ast.specs.Trees as tree
 use Rattle.os_ast.specs.declared.names.Direction.{Direction}
 use Rattle.os_ast.specs.declared.names.Direction.TheVariants as direction
@@ -53,7 +53,7 @@ module _ (tells : ℕ → Resolved) where
   item_kept : (r : Direction) (i : tree.ClauseItemTree) → KeepsLabels (item_code tells r i)
   item_kept r i d = and_then_kept (stream_kept i.stream d) (join_kept r i.window)
 
-  pub items_kept : (ps : List ClausePart) → KeepsLabels (items_code tells ps)
+  pub items_kept : (ps : List ClauseMember) → KeepsLabels (items_code tells ps)
   items_kept [] d = kept d
   items_kept (Private n ∷ ps) d = items_kept ps d
   items_kept (Item r i ∷ ps) d = and_then_kept (item_kept r i d) (items_kept ps)
@@ -87,7 +87,7 @@ module _ {code : Parts} {place_of : ℕ → ℕ} (tells : ℕ → Resolved) wher
   join_stands r None is d b = stands_instr d (Push (pos 1)) refl b
   join_stands r (Some j) is d b = burst_stands r (tells j.name.mark.place).what j.burst (λ i found. is j i refl found) d b
 
-  pub items_stand : (ps : List ClausePart) → AreAll IsItem ps → (d : Draft) → Becomes (items_code tells ps d) code place_of →
+  pub items_stand : (ps : List ClauseMember) → AreAll IsItem ps → (d : Draft) → Becomes (items_code tells ps d) code place_of →
       HasItems code tells ps (length d.instrs) (length (items_code tells ps d).instrs)
   items_stand [] are d b = refl
   items_stand (Private n ∷ ps) (leveled.cons is are) d b = items_stand ps are d b

@@ -13,7 +13,7 @@ use Rattle.lowering_draft.specs.declared.draft.Draft.{Draft}
 use Rattle.lowering_draft.specs.declared.draft.Label.{Label}
 use Rattle.lowering_draft.specs.declared.exits.Exits.{Exits}
 use Rattle.os_ast.specs.Leveled.{AreAll, AreStmts, IsChange, IsExpr, IsStmt}
-use Rattle.os_ast.specs.ClauseParts.{ClausePart}
+use Rattle.os_ast.specs.ClauseMembers.{ClauseMember}
 use Rattle.os_ast.specs.Trees as tree
 use Rattle.os_ast.specs.declared.names.Resolved.{Resolved}
 use Rattle.os_code.specs.declared.parts.Parts.{Parts}
@@ -44,7 +44,7 @@ DeclaratorsStand = (code : Parts) (place_of : ℕ → ℕ) (tells : ℕ → Reso
     Makes code place_of (declarators_code tells ds) (HasDeclarators code tells ds)
 
 abbrev pub ItemsStand : Type 0
-ItemsStand = (code : Parts) (place_of : ℕ → ℕ) (tells : ℕ → Resolved) (ps : List ClausePart) → AreAll IsItem ps →
+ItemsStand = (code : Parts) (place_of : ℕ → ℕ) (tells : ℕ → Resolved) (ps : List ClauseMember) → AreAll IsItem ps →
     Makes code place_of (items_code tells ps) (HasItems code tells ps)
 
 -- What the code of a statement or a block adds to a draft has something, by where `break` and `continue` go and where the

@@ -3,7 +3,7 @@
 ghost use Rattle.std.specs.Prelude.{◌≡◌, OnOk, map};
 ghost use Rattle.lowering_draft.specs.Items.{with_items};
 ghost use Rattle.lowering_relation.specs.Names.{told_at};
-ghost use Rattle.os_ast.specs.ClauseParts.{Item, parts, clause_parts};
+ghost use Rattle.os_ast.specs.ClauseMembers.{Item, members, clause_members};
 ghost use Rattle.os_ast.specs.Views.{clause_item_tree, clause_kind_tree, clause_tree};
 
 use crate::told::Told;
@@ -42,7 +42,7 @@ pub fn visit_items<V: ItemVisitor>(
     told: &Told<'_>,
     clauses: &List<Clause>,
 ) -> Result<(), Memory>
-    ensures { OnOk result (made.new ≡ with_items (V.with_item (told_at told.now.names.now)) (parts (map clause_tree clauses.now)) made.old) }
+    ensures { OnOk result (made.new ≡ with_items (V.with_item (told_at told.now.names.now)) (members (map clause_tree clauses.now)) made.old) }
 {
     for clause in clauses.as_slice() {
         visit_clause(visitor, made, told, &clause.kind)?;
@@ -58,7 +58,7 @@ fn visit_clause<V: ItemVisitor>(
     told: &Told<'_>,
     kind: &ClauseKind,
 ) -> Result<(), Memory>
-    ensures { OnOk result (made.new ≡ with_items (V.with_item (told_at told.now.names.now)) (clause_parts (clause_kind_tree kind.now)) made.old) }
+    ensures { OnOk result (made.new ≡ with_items (V.with_item (told_at told.now.names.now)) (clause_members (clause_kind_tree kind.now)) made.old) }
 {
     match kind {
         ClauseKind::Input(items) => visit_all(visitor, made, told, Direction::Reads, items),

@@ -1,7 +1,7 @@
 //! The sites of tasks: what each captures, and its clause items.
 
 ghost use Rattle.std.specs.Prelude.{◌≡◌, [], IfOk, get_or, map, option_map};
-ghost use Rattle.os_ast.specs.ClauseParts.{parts};
+ghost use Rattle.os_ast.specs.ClauseMembers.{members};
 ghost use Rattle.os_ast.specs.Views.{clause_item_tree, clause_tree, join_tree};
 ghost use Rattle.lowering_relation.specs.Names.{told_at};
 ghost use Rattle.lowering_relation.specs.Tasks.{is_write, site_item, site_items, window_of};
@@ -31,7 +31,7 @@ pub fn site_items(
     told: &Told<'_>,
     clauses: &List<Clause>,
 ) -> Result<List<SiteItem>, Memory>
-    ensures { IfOk result (λ made. made ≡ site_items (told_at told.now.names.now) (parts (map clause_tree clauses.now))) }
+    ensures { IfOk result (λ made. made ≡ site_items (told_at told.now.names.now) (members (map clause_tree clauses.now))) }
 {
     let mut made = List::new(alloc);
     visit_items(&SiteItems, &mut made, told, clauses)?;

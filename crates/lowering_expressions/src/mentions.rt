@@ -2,7 +2,7 @@
 
 ghost use Rattle.std.specs.Prelude.{◌≡◌};
 ghost use Rattle.os_ast.specs.FreeNames.{args_names, expr_names, links_names, target_names};
-ghost use Rattle.os_ast.specs.ClauseParts.{is_in};
+ghost use Rattle.os_ast.specs.ClauseMembers.{is_in};
 ghost use Rattle.os_ast.specs.Views.{args_tree, expr_tree, links_tree, target_tree};
 
 use os_ast::{Expr, Link, Target};

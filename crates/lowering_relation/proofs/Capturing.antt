@@ -7,7 +7,7 @@ use Rattle.std.specs.Prelude.{⊤, unwrap_or, nat_lt, cond, get_or}
 use Rattle.os_ast.specs.Captured.{Scalar, scalar_of, others, scalars, among}
 use Rattle.os_ast.specs.Meanings.{place_in}
 use Rattle.os_ast.specs.Names.{lookup, entity_of}
-use Rattle.os_ast.specs.ClauseParts.{is_in}
+use Rattle.os_ast.specs.ClauseMembers.{is_in}
 use Rattle.os_ast.specs.Stacked.{main_extent, begins, ends}
 use Rattle.os_ast.specs.Stacked as text
 use Rattle.os_ast.specs.declared.names.Entity.{Entity}

@@ -13,7 +13,7 @@ use Rattle.cddf_meaning.specs.declared.variable.Binding.{Binding}
 use Rattle.cddf_meaning.specs.declared.variable.Variable.{Variable}
 use Rattle.cddf_meaning.specs.declared.variable.Variable.TheVariants as variable_of
 use Rattle.os_ast.specs.FreeNames.{expr_names, target_names, args_names, links_names}
-use Rattle.os_ast.specs.ClauseParts.{is_in, target_name}
+use Rattle.os_ast.specs.ClauseMembers.{is_in, target_name}
 use Rattle.os_ast.specs.Trees as tree
 use Rattle.os_ast.specs.declared.expr.Binary.{Binary}
 use Rattle.os_ast.specs.declared.expr.Binary.TheVariants as binary

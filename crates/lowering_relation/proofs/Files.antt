@@ -18,7 +18,7 @@ use Rattle.os_ast.specs.Notes.Programs.{owner_of, param_list, round_body, after_
 use Rattle.os_ast.specs.Notes.Programs as programs
 use Rattle.os_ast.specs.Notes.Statements.{after_stmts, stmts_notes}
 use Rattle.os_ast.specs.Trees as tree
-use Rattle.os_ast.specs.ClauseParts.{is_in}
+use Rattle.os_ast.specs.ClauseMembers.{is_in}
 use Rattle.os_ast.specs.Unsigned.{is_unsigned}
 use Rattle.os_ast.specs.Violations.{captures, is_int, is_empty, is_main, has_main}
 use Rattle.os_ast.specs.declared.names.Entity.{Entity}

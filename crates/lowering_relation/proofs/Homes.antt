@@ -5,7 +5,7 @@ use Rattle.os_ast.specs.Captured.{slots_of}
 use Rattle.os_ast.specs.Meanings.{what_declared}
 use Rattle.os_ast.specs.Notes.Declarators.{declared_entity}
 use Rattle.os_ast.specs.Notes.Kinds.{Note, Used, Declared, Pragma, Task}
-use Rattle.os_ast.specs.ClauseParts.{count_items}
+use Rattle.os_ast.specs.ClauseMembers.{count_items}
 use Rattle.os_ast.specs.declared.names.Role.TheVariants as role
 use Rattle.os_ast.specs.declared.names.Use.{Use}
 use Rattle.os_ast.specs.declared.names.Use.TheVariants as usage
@@ -136,5 +136,5 @@ AllFit h (n ∷ ns) = FitsNote h n × AllFit h ns
 abbrev pub AreSpawned : Home → List TaskTree → Type 0
 AreSpawned h [] = ⊤
 AreSpawned h (t ∷ ts) =
-    ((number : ℕ) → task_index h.body.tasks t.mark ≡ Some number → (operands_of h.code (instr.Spawn number) ≡ count_items t.parts + count_items t.parts) × (number < length h.code.sites))
+    ((number : ℕ) → task_index h.body.tasks t.mark ≡ Some number → (operands_of h.code (instr.Spawn number) ≡ count_items t.members + count_items t.members) × (number < length h.code.sites))
     × AreSpawned h ts

@@ -13,9 +13,9 @@ use Rattle.cddf_meaning.specs.Variables.{find}
 use Rattle.cddf_meaning.specs.declared.ending.Ending.TheVariants as ending
 use Rattle.flow_core_laws.specs.declared.claim.Claim.{Claim}
 use Rattle.os_ast.specs.Names.{Scope}
-use Rattle.os_ast.specs.Notes.Clauses.{shape_of, window_notes, part_notes, parts_notes}
+use Rattle.os_ast.specs.Notes.Clauses.{shape_of, window_notes, member_notes, members_notes}
 use Rattle.os_ast.specs.Notes.Expressions.{place_notes, index_notes}
-use Rattle.os_ast.specs.ClauseParts.{ClausePart, Item, Private, part_name}
+use Rattle.os_ast.specs.ClauseMembers.{ClauseMember, Item, Private, member_name}
 use Rattle.os_ast.specs.Trees as tree
 use Rattle.os_ast.specs.declared.expr.Name.{Name}
 use Rattle.os_ast.specs.declared.names.Direction.{Direction}
@@ -219,7 +219,7 @@ module _ (code : Parts) (file : File) (falls : CallsFall file) (names : List Res
       )
       stays)
 
-  item_runs : (d : Direction) (i : tree.ClauseItemTree) (before : List ℕ) (from mid to : ℕ) (stack : List ℤ) (turns : ℕ) → Agree c (part_notes s before (Item d i)) →
+  item_runs : (d : Direction) (i : tree.ClauseItemTree) (before : List ℕ) (from mid to : ℕ) (stack : List ℤ) (turns : ℕ) → Agree c (member_notes s before (Item d i)) →
       HasStream code (tells c) i.stream from mid → HasJoin code (tells c) d i.window mid to →
       Meets code (at callers from stack m turns) (itemed (site_item (tells c) d i) to stack) (item_claim file d i st turns)
   item_runs d i before from mid to stack turns agree h join =
@@ -238,20 +238,20 @@ module _ (code : Parts) (file : File) (falls : CallsFall file) (names : List Res
     created = m.created;
   }
 
-  pub items_run : (ps : List ClausePart) (before : List ℕ) (from to : ℕ) (stack : List ℤ) (turns : ℕ) → Agree c (parts_notes s before ps) → HasItems code (tells c) ps from to →
+  pub items_run : (ps : List ClauseMember) (before : List ℕ) (from to : ℕ) (stack : List ℤ) (turns : ℕ) → Agree c (members_notes s before ps) → HasItems code (tells c) ps from to →
       Meets code (at callers from stack m turns) (all_itemed (site_items (tells c) ps) to stack) (items_claims file ps st turns)
   items_run [] before from to stack turns agree h =
       gives (left [] turns) ([], refl, refl, tt) (subst (λ q. Leads code (at callers from stack m turns) (at callers q stack m turns)) h stays)
   items_run (Private n ∷ ps) before from to stack turns agree h = items_run ps (n.id ∷ before) from to stack turns agree.1.1 h
   items_run (Item d i ∷ ps) before from to stack turns agree h =
-      let first = part_notes s before (Item d i) in
-      let later_names = (part_name (Item d i)).id ∷ before in
+      let first = member_notes s before (Item d i) in
+      let later_names = (member_name (Item d i)).id ∷ before in
       let item = site_item (tells c) d i in
       let items = site_items (tells c) ps in
       meets_then code (λ x. and_then (items_claims file ps st x.turns) (λ xs. Ok (left (x.value ∷ xs.value) xs.turns))) refl
-      (item_runs d i before from h.0 h.1 stack turns (agree_first c first (parts_notes s later_names ps) agree) h.2 h.3)
+      (item_runs d i before from h.0 h.1 stack turns (agree_first c first (members_notes s later_names ps) agree) h.2 h.3)
       (λ x w. meets_then code (λ xs. Ok (left (x.value ∷ xs.value) xs.turns)) refl
-      (items_run ps later_names h.1 to (w.1 ∷ pos w.0 ∷ stack) x.turns (agree_rest c first (parts_notes s later_names ps) agree) h.4)
+      (items_run ps later_names h.1 to (w.1 ∷ pos w.0 ∷ stack) x.turns (agree_rest c first (members_notes s later_names ps) agree) h.4)
       (λ xs z. gives (left (x.value ∷ xs.value) xs.turns) (
         pos w.0 ∷ w.1 ∷ z.0,
         ap (λ r. with_claim r (spawned_claims code.streams m.slots items z.0)) w.2 ∙ ap (with_claim (Ok x.value)) z.1,

@@ -2,9 +2,9 @@
 use Rattle.std.proofs.Common.{◌≡◌, ℕ, suc, ◌+◌, ◌<◌, List, [], ◌∷◌, Option, Some, None, refl, arith, pos}
 use Rattle.std.specs.Prelude.{⊤}
 use Rattle.os_ast.specs.Names.{Scope}
-use Rattle.os_ast.specs.Notes.Clauses.{window_notes, part_notes, parts_notes}
+use Rattle.os_ast.specs.Notes.Clauses.{window_notes, member_notes, members_notes}
 use Rattle.os_ast.specs.Notes.Expressions.{index_notes, place_notes}
-use Rattle.os_ast.specs.ClauseParts.{ClausePart, Item, Private, part_name, count_items, target_name}
+use Rattle.os_ast.specs.ClauseMembers.{ClauseMember, Item, Private, member_name, count_items, target_name}
 use Rattle.os_ast.specs.Trees as tree
 use Rattle.os_ast.specs.declared.names.Direction.{Direction}
 use Rattle.os_ast.specs.declared.names.Direction.TheVariants as direction
@@ -59,17 +59,17 @@ module _ (h : Home) (in_main : h.kind ≡ Main) where
       straight h (instr.Push (pos 1) ∷ []) from to x (suc x) has ((refl, refl, refl, refl), omega arith, tt, omega arith)
   join_lays d stream (Some j) s before from to x fit has = burst_lays d (tells h j.name.mark.place).what j.burst s from to x fit.1.0 fit.1.1 has
 
-  pub items_lay : (ps : List ClausePart) (s : Scope) (before : List ℕ) (from to x : ℕ) → AllFit h (parts_notes s before ps) → HasItems h.code (tells h) ps from to →
+  pub items_lay : (ps : List ClauseMember) (s : Scope) (before : List ℕ) (from to x : ℕ) → AllFit h (members_notes s before ps) → HasItems h.code (tells h) ps from to →
       Lays h ⊤ from x to (x + (count_items ps + count_items ps))
   items_lay [] s before from to x fit has = to_end h has (to_height h (omega arith) (nothing h from x))
-  items_lay (Private n ∷ ps) s before from to x fit has = items_lay ps s ((part_name (Private n)).id ∷ before) from to x fit.1.1 has
+  items_lay (Private n ∷ ps) s before from to x fit has = items_lay ps s ((member_name (Private n)).id ∷ before) from to x fit.1.1 has
   items_lay (Item d i ∷ ps) s before from to x fit has =
-      let here = part_notes s before (Item d i) in
-      let rest = parts_notes s ((part_name (Item d i)).id ∷ before) ps in
+      let here = member_notes s before (Item d i) in
+      let rest = members_notes s ((member_name (Item d i)).id ∷ before) ps in
       let first = fit_first h here rest fit in
       let stream = place_notes s (role.Flow d) i.stream in
       let window = window_notes s before i.stream i.window in
       to_height h (omega arith)
       (then_lays h (stream_lays i.stream d s from has.0 x (fit_first h stream window first) has.2)
       (then_lays h (join_lays d i.stream i.window s before has.0 has.1 (suc x) (fit_rest h stream window first) has.3)
-      (items_lay ps s ((part_name (Item d i)).id ∷ before) has.1 to (suc (suc x)) (fit_rest h here rest fit) has.4)))
+      (items_lay ps s ((member_name (Item d i)).id ∷ before) has.1 to (suc (suc x)) (fit_rest h here rest fit) has.4)))

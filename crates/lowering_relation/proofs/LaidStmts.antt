@@ -4,12 +4,12 @@ use Rattle.std.proofs.lemmas.Bool.{cases_lt}
 use Rattle.std.specs.Prelude.{⊤, ◌⊎◌, IsTrue, length}
 use Rattle.os_ast.specs.Captured.{captured}
 use Rattle.os_ast.specs.Names.{Scope, enter, in_loop, typed}
-use Rattle.os_ast.specs.Notes.Clauses.{parts_notes}
+use Rattle.os_ast.specs.Notes.Clauses.{members_notes}
 use Rattle.os_ast.specs.Notes.Declarators.{after_start, start_notes}
 use Rattle.os_ast.specs.Notes.Expressions.{expr_notes, place_notes, value_notes, step_notes}
 use Rattle.os_ast.specs.Notes.Kinds.{Task}
 use Rattle.os_ast.specs.Notes.Statements.{after_stmt}
-use Rattle.os_ast.specs.ClauseParts.{parts, count_items, target_name}
+use Rattle.os_ast.specs.ClauseMembers.{members, count_items, target_name}
 use Rattle.os_ast.specs.Trees as tree
 use Rattle.os_ast.specs.declared.names.Direction.TheVariants as direction
 use Rattle.os_ast.specs.declared.names.Role.TheVariants as role
@@ -226,12 +226,12 @@ module _ (h : Home) (left : IsLeft h) where
         let v = expr_lays h e s from has.0 0 fit.1 has.1 in
         (λ same. absurd (omega (arith, same, v.0, has.2.1)), free h (then_lays h v.1 (to_end h has.2.1 (leave_lays has.0 has.2.0))))
     stmt_lays (tree.Task m cs a) s broke continued next from to fit spawned has =
-        let ps = parts cs in
+        let ps = members cs in
         let note = Task s m (count_items ps) (captured s.entries ps a) ∷ [] in
-        let fit_task = fit_rest h (parts_notes s [] ps) note fit in (
+        let fit_task = fit_rest h (members_notes s [] ps) note fit in (
           λ e. has.5,
           free h
-              (then_lays h (items_lay h fit_task.0.0 ps s [] from has.1 0 (fit_first h (parts_notes s [] ps) note fit) has.3)
+              (then_lays h (items_lay h fit_task.0.0 ps s [] from has.1 0 (fit_first h (members_notes s [] ps) note fit) has.3)
               (spawn_lays has.0 (count_items ps + count_items ps) has.1 to fit_task.0.0 (spawned.0 has.0 has.2) has.4)),
         )
     stmt_lays (tree.Tick m t arrow e) s broke continued next from to fit spawned has =

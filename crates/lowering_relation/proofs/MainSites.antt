@@ -10,12 +10,12 @@ use Rattle.flow_core_laws.proofs.Stretches.{slice_get-append_left, slice_get-app
 use Rattle.os_ast.specs.Captured.{Scalar, captured, slots_of}
 use Rattle.os_ast.specs.Leveled.{IsStmt, AreStmts}
 use Rattle.os_ast.specs.Names.{Scope, enter, in_loop, typed}
-use Rattle.os_ast.specs.Notes.Clauses.{in_task, captured_in, in_task_body, parts_notes, clauses_notes}
+use Rattle.os_ast.specs.Notes.Clauses.{in_task, captured_in, in_task_body, members_notes, clauses_notes}
 use Rattle.os_ast.specs.Notes.Declarators.{after_declarators, declarators_notes, after_start, start_notes}
 use Rattle.os_ast.specs.Notes.Expressions.{expr_notes, value_notes, step_notes}
 use Rattle.os_ast.specs.Notes.Kinds.{Note, Task}
 use Rattle.os_ast.specs.Notes.Statements.{after_stmt, stmt_notes, stmts_notes}
-use Rattle.os_ast.specs.ClauseParts.{parts, count_items}
+use Rattle.os_ast.specs.ClauseMembers.{members, count_items}
 use Rattle.os_ast.specs.Trees as tree
 use Rattle.os_ast.specs.Violations.{main_task, captures}
 use Rattle.os_ast.specs.declared.expr.Mark.{Mark}
@@ -57,7 +57,7 @@ module _ (rs : List Resolved) (file : List Entry) (tasks : List MeaningTask) (sl
   pub record IsNumbered (s : Scope) (mark : Mark) (cs : List tree.ClauseTree) (a : tree.StmtTree) : Type 0 where
     pub number : ℕ
     pub is : slice_get tasks number ≡ Some (scoped_task_at s mark cs a)
-    pub captures : slice_get slots number ≡ Some (slots_of (captured s.entries (parts cs) a))
+    pub captures : slice_get slots number ≡ Some (slots_of (captured s.entries (members cs) a))
 
   by_captures : (k : ℕ) (xs ys : List Note) → captures xs ≡ [] → Stretch slots k (captures (xs ++ ys)) → Stretch slots k (captures ys)
   by_captures k xs ys none h = subst (Stretch slots k) (captures_both xs ys ∙ ap (λ cs. cs ++ captures ys) none) h
@@ -98,14 +98,14 @@ module _ (rs : List Resolved) (file : List Entry) (tasks : List MeaningTask) (sl
     owns_stmt IsStmt.continue s k h lawful tells x y = tt
     owns_stmt (IsStmt.return _) s k h lawful tells x y = tt
     owns_stmt (IsStmt.task {m = mark} {cs = cs} {s = a} _ is) s k h lawful tells x y =
-        let inner = in_task_body s (parts cs) a in
-        let front = clauses_notes s mark (parts cs) a in
+        let inner = in_task_body s (members cs) a in
+        let front = clauses_notes s mark (members cs) a in
         let last = stmt_notes inner a in
-        let note = Task s mark (count_items (parts cs)) (captured s.entries (parts cs) a) ∷ [] in
-        let own_slots = slots_of (captured s.entries (parts cs) a) in
-        let own : inner.owner ≡ owner.OfTask = items_owner (parts cs) s (in_task s (captured_in s.owner own_slots)) 0 in
+        let note = Task s mark (count_items (members cs)) (captured s.entries (members cs) a) ∷ [] in
+        let own_slots = slots_of (captured s.entries (members cs) a) in
+        let own : inner.owner ≡ owner.OfTask = items_owner (members cs) s (in_task s (captured_in s.owner own_slots)) 0 in
         let e : captures (front ++ last) ≡ own_slots ∷ [] =
-        captures_both front last ∙ ap (λ cs. captures front ++ cs) (none_stmt a inner (λ e. let z : owner.OfTask ≡ owner.OfMain = sym own ∙ e in absurd (cc))) ∙ ap (λ cs. cs ++ []) (captures_both (parts_notes s [] (parts cs)) note ∙ ap (λ cs. cs ++ captures note) (none_parts (parts cs) s []) ∙ ap (λ o. main_task o own_slots ++ []) h.owner) in
+        captures_both front last ∙ ap (λ cs. captures front ++ cs) (none_stmt a inner (λ e. let z : owner.OfTask ≡ owner.OfMain = sym own ∙ e in absurd (cc))) ∙ ap (λ cs. cs ++ []) (captures_both (members_notes s [] (members cs)) note ∙ ap (λ cs. cs ++ captures note) (none_parts (members cs) s []) ∙ ap (λ o. main_task o own_slots ++ []) h.owner) in
         let at_k : k + 0 ≡ k = omega arith in
         record {
           number = k;
@@ -173,7 +173,7 @@ module _ (rs : List Resolved) (file : List Entry) (tasks : List MeaningTask) (tr
   t = scoped_task_at s m cs a
 
   abbrev ids : List ℕ
-  ids = map (λ (x : Scalar). x.id) (captured s.entries (parts cs) a)
+  ids = map (λ (x : Scalar). x.id) (captured s.entries (members cs) a)
 
   abbrev site_as : MeaningTask → MeaningSite
   site_as x = record { place = x.mark.place; captured = ids_of x.captured }
@@ -211,5 +211,5 @@ module _ (rs : List Resolved) (file : List Entry) (tasks : List MeaningTask) (tr
         ids = captured_is;
         is_site = task.is_site;
         items = task.items;
-        slots = let x : Some task.site.captured ≡ Some (slots_of (captured s.entries (parts cs) a)) = sym task.captures ∙ more at.number (slots_of (captured s.entries (parts cs) a)) at.captures in cc;
+        slots = let x : Some task.site.captured ≡ Some (slots_of (captured s.entries (members cs) a)) = sym task.captures ∙ more at.number (slots_of (captured s.entries (members cs) a)) at.captures in cc;
       }

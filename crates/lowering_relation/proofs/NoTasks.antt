@@ -2,12 +2,12 @@
 use Rattle.std.proofs.Common.{◌≡◌, ℕ, suc, ◌&&◌, Bool, true, false, not, if◌then◌else◌, List, [], ◌∷◌, ◌++◌, Option, Some, None, refl, sym, ap, ◌∙◌, append_assoc}
 use Rattle.os_ast.specs.Captured.{captured, slots_of}
 use Rattle.os_ast.specs.Names.{Scope, enter, in_loop, typed}
-use Rattle.os_ast.specs.Notes.Clauses.{with_items, in_task, captured_in, in_task_body, window_notes, parts_notes, clauses_notes}
+use Rattle.os_ast.specs.Notes.Clauses.{with_items, in_task, captured_in, in_task_body, window_notes, members_notes, clauses_notes}
 use Rattle.os_ast.specs.Notes.Declarators.{is_window, after_declarator, declarator_notes, declarators_notes, size_notes, sized_notes, after_start, start_notes}
 use Rattle.os_ast.specs.Notes.Expressions.{expr_notes, place_notes, args_notes, links_notes, value_notes, index_notes, change_notes, step_notes}
 use Rattle.os_ast.specs.Notes.Kinds.{Note, Task}
 use Rattle.os_ast.specs.Notes.Statements.{after_stmt, stmt_notes, stmts_notes}
-use Rattle.os_ast.specs.ClauseParts.{ClausePart, Item, Private, parts, part_name, count_items}
+use Rattle.os_ast.specs.ClauseMembers.{ClauseMember, Item, Private, members, member_name, count_items}
 use Rattle.os_ast.specs.Trees as tree
 use Rattle.os_ast.specs.Violations.{main_task, captures_of, captures}
 use Rattle.os_ast.specs.declared.names.Direction.TheVariants as direction
@@ -69,13 +69,13 @@ none_window : (s : Scope) (before : List ℕ) (stream : tree.TargetTree) (w : Op
 none_window s before stream None = refl
 none_window s before stream (Some j) = none_index j.burst s
 
-pub none_parts : (ps : List ClausePart) (s : Scope) (before : List ℕ) → captures (parts_notes s before ps) ≡ []
+pub none_parts : (ps : List ClauseMember) (s : Scope) (before : List ℕ) → captures (members_notes s before ps) ≡ []
 none_parts [] s before = refl
 none_parts (Private n ∷ ps) s before = none_parts ps s (n.id ∷ before)
 none_parts (Item d i ∷ ps) s before =
-    none_both (place_notes s (role.Flow d) i.stream ++ window_notes s before i.stream i.window) (parts_notes s ((part_name (Item d i)).id ∷ before) ps)
+    none_both (place_notes s (role.Flow d) i.stream ++ window_notes s before i.stream i.window) (members_notes s ((member_name (Item d i)).id ∷ before) ps)
     (none_both (place_notes s (role.Flow d) i.stream) (window_notes s before i.stream i.window) (none_place i.stream s (role.Flow d)) (none_window s before i.stream i.window))
-    (none_parts ps s ((part_name (Item d i)).id ∷ before))
+    (none_parts ps s ((member_name (Item d i)).id ∷ before))
 
 none_size : (s : Scope) (e : tree.ExprTree) → captures (size_notes s e) ≡ []
 none_size s (tree.Number n) = refl
@@ -108,7 +108,7 @@ none_start tree.StartTree.Empty s = refl
 none_start (tree.StartTree.Declare ty ds) s = none_declarators ds (typed ty s)
 none_start (tree.StartTree.Change c) s = none_change c s
 
-pub items_owner : (ps : List ClausePart) (s inner : Scope) (item : ℕ) → (with_items s inner item ps).owner ≡ inner.owner
+pub items_owner : (ps : List ClauseMember) (s inner : Scope) (item : ℕ) → (with_items s inner item ps).owner ≡ inner.owner
 items_owner [] s inner item = refl
 items_owner (Item d i ∷ ps) s inner item = items_owner ps s _ (suc item)
 items_owner (Private n ∷ ps) s inner item = items_owner ps s inner item
@@ -146,10 +146,10 @@ mutual
   none_stmt (tree.Continue m) s own = refl
   none_stmt (tree.Return m e) s own = none_expr e s
   none_stmt (tree.Task m cs a) s own =
-      let inner = in_task_body s (parts cs) a in
-      none_both (clauses_notes s m (parts cs) a) (stmt_notes inner a)
-      (none_both (parts_notes s [] (parts cs)) (Task s m (count_items (parts cs)) (captured s.entries (parts cs) a) ∷ []) (none_parts (parts cs) s []) (outside s.owner (slots_of (captured s.entries (parts cs) a)) own))
-      (none_stmt a inner (λ e. let x : owner.OfTask ≡ owner.OfMain = sym (items_owner (parts cs) s (in_task s (captured_in s.owner (slots_of (captured s.entries (parts cs) a)))) 0) ∙ e in absurd (cc)))
+      let inner = in_task_body s (members cs) a in
+      none_both (clauses_notes s m (members cs) a) (stmt_notes inner a)
+      (none_both (members_notes s [] (members cs)) (Task s m (count_items (members cs)) (captured s.entries (members cs) a) ∷ []) (none_parts (members cs) s []) (outside s.owner (slots_of (captured s.entries (members cs) a)) own))
+      (none_stmt a inner (λ e. let x : owner.OfTask ≡ owner.OfMain = sym (items_owner (members cs) s (in_task s (captured_in s.owner (slots_of (captured s.entries (members cs) a)))) 0) ∙ e in absurd (cc)))
   none_stmt (tree.Tick m t arrow e) s own = none_both (place_notes s (role.Flow direction.Reads) t) (expr_notes s e) (none_place t s (role.Flow direction.Reads)) (none_expr e s)
   none_stmt (tree.Taskwait m) s own = refl
 

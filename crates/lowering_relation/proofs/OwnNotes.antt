@@ -6,7 +6,7 @@ use Rattle.os_ast.specs.Notes.Declarators.{declarators_notes, after_start, start
 use Rattle.os_ast.specs.Notes.Expressions.{count_args, expr_notes, args_notes, place_notes, value_notes, change_notes, step_notes}
 use Rattle.os_ast.specs.Notes.Kinds.{Note, Used, Left, Returned, Pragma}
 use Rattle.os_ast.specs.Notes.Statements.{after_stmt}
-use Rattle.os_ast.specs.ClauseParts.{parts}
+use Rattle.os_ast.specs.ClauseMembers.{members}
 use Rattle.os_ast.specs.Trees as tree
 use Rattle.os_ast.specs.declared.names.Direction.TheVariants as direction
 use Rattle.os_ast.specs.declared.names.Role.TheVariants as role
@@ -27,7 +27,7 @@ abbrev mutual
   own_notes s (tree.Break m) = Left s m ∷ []
   own_notes s (tree.Continue m) = Left s m ∷ []
   own_notes s (tree.Return m e) = Returned s m ∷ expr_notes s e
-  own_notes s (tree.Task m cs a) = clauses_notes s m (parts cs) a
+  own_notes s (tree.Task m cs a) = clauses_notes s m (members cs) a
   own_notes s (tree.Tick m t arrow e) = Pragma s m ∷ place_notes s (role.Flow direction.Reads) t ++ expr_notes s e
   own_notes s (tree.Taskwait m) = Pragma s m ∷ []
 

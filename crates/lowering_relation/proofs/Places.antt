@@ -8,7 +8,7 @@ use Rattle.os_ast.specs.Notes.Kinds.{Note, Global}
 use Rattle.os_ast.specs.Notes.Programs.{owner_of, param_list, params_notes, after_item, after_items, item_notes, items_notes, in_body, round_body}
 use Rattle.os_ast.specs.Notes.Programs as programs
 use Rattle.os_ast.specs.Notes.Statements.{after_stmts, stmts_notes}
-use Rattle.os_ast.specs.ClauseParts.{is_in}
+use Rattle.os_ast.specs.ClauseMembers.{is_in}
 use Rattle.os_ast.specs.Trees as tree
 use Rattle.os_ast.specs.Violations.{captures, is_int, is_empty, has_main}
 use Rattle.os_ast.specs.declared.names.Owner.TheVariants as owner

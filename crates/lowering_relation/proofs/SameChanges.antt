@@ -20,7 +20,7 @@ use Rattle.os_ast.specs.Limits.{is_size}
 use Rattle.os_ast.specs.Names.{Scope, typed}
 use Rattle.os_ast.specs.Notes.Declarators.{form, sized_form, size_of, size_value, after_declarator, declarator_notes, declarators_notes, sized_notes, size_notes, is_window, start_notes}
 use Rattle.os_ast.specs.Notes.Expressions.{expr_notes, place_notes, value_notes, change_notes}
-use Rattle.os_ast.specs.ClauseParts.{is_in, target_name}
+use Rattle.os_ast.specs.ClauseMembers.{is_in, target_name}
 use Rattle.os_ast.specs.Rules.{has_no_size, has_too_many}
 use Rattle.os_ast.specs.Trees as tree
 use Rattle.os_ast.specs.Unsigned.{is_unsigned}

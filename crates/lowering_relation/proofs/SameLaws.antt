@@ -24,7 +24,7 @@ use Rattle.os_ast.specs.Notes.Clauses.{item_flag}
 use Rattle.os_ast.specs.Notes.Programs.{owner_of, param_list, after_param, after_params, after_items, in_body, items_notes}
 use Rattle.os_ast.specs.Notes.Programs as programs
 use Rattle.os_ast.specs.Notes.Statements.{stmts_notes}
-use Rattle.os_ast.specs.ClauseParts.{ClausePart, Item as ItemPart, Private, parts, item_name, item_ids}
+use Rattle.os_ast.specs.ClauseMembers.{ClauseMember, Item as ItemPart, Private, members, item_name, item_ids}
 use Rattle.os_ast.specs.Trees as tree
 use Rattle.os_ast.specs.Unsigned.{is_unsigned}
 use Rattle.os_ast.specs.Violations.{names}
@@ -92,7 +92,7 @@ captured_ids es [] vs bound xs h = h
 captured_ids es (x ∷ cs) [] bound xs h = captured_ids es cs [] (bind x.id (flag_of (lookup es x.id)) (Scalar (pos 0)) bound) (captured_entry es x ∷ xs) (ap (λ ys. x.id ∷ ys) h)
 captured_ids es (x ∷ cs) (v ∷ vs) bound xs h = captured_ids es cs vs (bind x.id (flag_of (lookup es x.id)) (Scalar v) bound) (captured_entry es x ∷ xs) (ap (λ ys. x.id ∷ ys) h)
 
-items_ids : (s : Scope) (depth item : ℕ) (ps : List ClausePart) (bound : List Binding) (xs : List Entry) → ids bound ≡ entry_ids xs → ids (bind_items item (map (scoped_name s.entries) (item_ids ps)) bound) ≡ entry_ids (made_items s depth item ps xs)
+items_ids : (s : Scope) (depth item : ℕ) (ps : List ClauseMember) (bound : List Binding) (xs : List Entry) → ids bound ≡ entry_ids xs → ids (bind_items item (map (scoped_name s.entries) (item_ids ps)) bound) ≡ entry_ids (made_items s depth item ps xs)
 items_ids s depth item [] bound xs h = h
 items_ids s depth item (ItemPart d i ∷ ps) bound xs h = items_ids s depth (suc item) ps (bind (item_name i.stream i.window).id (item_flag s i) (Item item) bound) _ (ap (λ ys. (item_name i.stream i.window).id ∷ ys) h)
 items_ids s depth item (Private n ∷ ps) bound xs h = items_ids s depth item ps bound xs h
@@ -241,9 +241,9 @@ module _ (p : tree.ProgramTree) (program : IsLawful p) (m : Main) (found : main_
 
     in_round : Matches round begun.bound []
     in_round =
-        items_ids task_there.scope _ 0 (parts task_there.clauses) _ _
-        (captured_ids task_there.scope.entries (captured task_there.scope.entries (parts task_there.clauses) task_there.body) a.captured [] [] refl)
-        ∙ ap entry_ids (items_onto task_there.scope _ 0 (parts task_there.clauses) [] (caught_all no_code m.file at.falls (names p) order s.entries at.fits t at_task.0 task_there a.claims))
+        items_ids task_there.scope _ 0 (members task_there.clauses) _ _
+        (captured_ids task_there.scope.entries (captured task_there.scope.entries (members task_there.clauses) task_there.body) a.captured [] [] refl)
+        ∙ ap entry_ids (items_onto task_there.scope _ 0 (members task_there.clauses) [] (caught_all no_code m.file at.falls (names p) order s.entries at.fits t at_task.0 task_there a.claims))
 
     task_finds : outcome t.mark.line a.claims (run (in_function m.file) t.body (with_more more (state_of (bound_round t a.captured) (item_lists a.claims inputs))) budget)
         ≡ outcome t.mark.line a.claims (run (in_function m.file) t.body (state_of (bound_round t a.captured) (item_lists a.claims inputs)) budget)

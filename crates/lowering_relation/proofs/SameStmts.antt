@@ -13,12 +13,12 @@ use Rattle.cddf_meaning.specs.declared.variable.Binding.{Binding}
 use Rattle.os_ast.specs.Captured.{captured}
 use Rattle.os_ast.specs.Leveled.{IsStmt, AreStmts}
 use Rattle.os_ast.specs.Names.{Scope, enter, in_loop, typed}
-use Rattle.os_ast.specs.Notes.Clauses.{in_task_body, parts_notes, clauses_notes}
+use Rattle.os_ast.specs.Notes.Clauses.{in_task_body, members_notes, clauses_notes}
 use Rattle.os_ast.specs.Notes.Declarators.{after_declarators, declarators_notes, after_start, start_notes}
 use Rattle.os_ast.specs.Notes.Expressions.{count_args, expr_notes, args_notes, value_notes, step_notes}
 use Rattle.os_ast.specs.Notes.Kinds.{Task}
 use Rattle.os_ast.specs.Notes.Statements.{after_stmt, stmt_notes, stmts_notes}
-use Rattle.os_ast.specs.ClauseParts.{parts, count_items}
+use Rattle.os_ast.specs.ClauseMembers.{members, count_items}
 use Rattle.os_ast.specs.Trees as tree
 use Rattle.os_ast.specs.Unsigned.{is_unsigned}
 use Rattle.os_ast.specs.declared.expr.Mark.{Mark}
@@ -131,11 +131,11 @@ module _ (c : Context) (more : List Binding) (apart : AreElse c.file more) (site
         given_same c more st (value c.file e st turns) (value c.file e (with_more more st) turns) (λ n. Went (Returns n.value) st n.turns) (λ n. Went (Returns n.value) (with_more more st) n.turns)
         (expr_same s es st e turns is same agree.1) (λ n q. returns n.value st n.turns)
     stmt_same (IsStmt.task {m = mark} {cs = cs} {s = a} _ _) s es st turns is same agree own =
-        let note = Task s mark (count_items (parts cs)) (captured s.entries (parts cs) a) ∷ [] in
-        let front = agree_first c (clauses_notes s mark (parts cs) a) (stmt_notes (in_task_body s (parts cs) a) a) agree in
-        let at_note = agree_rest c (parts_notes s [] (parts cs)) note front in
+        let note = Task s mark (count_items (members cs)) (captured s.entries (members cs) a) ∷ [] in
+        let front = agree_first c (clauses_notes s mark (members cs) a) (stmt_notes (in_task_body s (members cs) a) a) agree in
+        let at_note = agree_rest c (members_notes s [] (members cs)) note front in
         let main = sym is.owner ∙ main_pragma s.owner at_note.0.0.1.1.1.1.1.1.1.0 in
-        task_same c more apart (sees main) s es is st same sites mark cs a turns (agree_first c (parts_notes s [] (parts cs)) note front) (named main s mark cs a own)
+        task_same c more apart (sees main) s es is st same sites mark cs a turns (agree_first c (members_notes s [] (members cs)) note front) (named main s mark cs a own)
     stmt_same (IsStmt.tick {m = mark} {t = t} {a = arrow} {e = e} _ _) s es st turns is same agree own =
         let main = sym is.owner ∙ main_pragma s.owner agree.0.0.1.1.1.1.1.1.1.0 in
         tick_same c more apart (sees main) s es is st same t arrow e turns agree.1

@@ -15,10 +15,10 @@ use Rattle.cddf_meaning.specs.declared.variable.Binding.{Binding}
 use Rattle.flow_core_laws.specs.declared.claim.Claim.{Claim}
 use Rattle.os_ast.specs.Captured.{Scalar, captured}
 use Rattle.os_ast.specs.Names.{Scope, lookup, entity_of}
-use Rattle.os_ast.specs.Notes.Clauses.{shape_of, window_notes, part_notes, parts_notes}
+use Rattle.os_ast.specs.Notes.Clauses.{shape_of, window_notes, member_notes, members_notes}
 use Rattle.os_ast.specs.Notes.Expressions.{expr_notes, place_notes, index_notes}
 use Rattle.os_ast.specs.Notes.Kinds.{Note, Used}
-use Rattle.os_ast.specs.ClauseParts.{ClausePart, Item, Private, part_name, parts}
+use Rattle.os_ast.specs.ClauseMembers.{ClauseMember, Item, Private, member_name, members}
 use Rattle.os_ast.specs.Trees as tree
 use Rattle.os_ast.specs.declared.expr.Mark.{Mark}
 use Rattle.os_ast.specs.declared.expr.Name.{Name}
@@ -46,7 +46,7 @@ SeesAll c =
 
 -- what a task of this number captures
 abbrev pub IsNamed : List Site → Scope → Mark → List tree.ClauseTree → tree.StmtTree → Type 0
-IsNamed sites s m cs a = (number : ℕ) × (task_number sites m ≡ Some number) × (captured_by sites number ≡ map (λ (x : Scalar). x.id) (captured s.entries (parts cs) a))
+IsNamed sites s m cs a = (number : ℕ) × (task_number sites m ≡ Some number) × (captured_by sites number ≡ map (λ (x : Scalar). x.id) (captured s.entries (members cs) a))
 
 module _ (c : Context) (more : List Binding) (apart : AreElse c.file more) (sees : SeesAll c) (s : Scope) (es : List Entry) (is : In c s es) (st : BodyState) (same : Matches c st.bound es) where
   abbrev st2 : BodyState
@@ -75,22 +75,22 @@ module _ (c : Context) (more : List Binding) (apart : AreElse c.file more) (sees
       ap (λ h. and_then (burst c.file d h j.burst st turns) (λ b. Ok (left (claim_of d stream h b.value) b.turns))) (ap horizon_of (found_more j.name (usage.Joined (shape_of j.burst)) (index_notes s j.burst) agree.1))
       ∙ ap (λ a. and_then a (λ b. Ok (left (claim_of d stream (horizon_of (find st2.bound j.name.id)) b.value) b.turns))) (burst_more d (horizon_of (find st2.bound j.name.id)) j.burst turns agree.1.1)
 
-  item_more : (d : Direction) (i : tree.ClauseItemTree) (before : List ℕ) (turns : ℕ) → Agree c (part_notes s before (Item d i)) → item_claim c.file d i st turns ≡ item_claim c.file d i st2 turns
+  item_more : (d : Direction) (i : tree.ClauseItemTree) (before : List ℕ) (turns : ℕ) → Agree c (member_notes s before (Item d i)) → item_claim c.file d i st turns ≡ item_claim c.file d i st2 turns
   item_more d i before turns agree =
       let front = place_notes s (role.Flow d) i.stream in
       let rest = window_notes s before i.stream i.window in
       same_then (stream_number c.file i.stream st turns) (stream_number c.file i.stream st2 turns) (λ n. joined c.file d n.value i.window st n.turns) (λ n. joined c.file d n.value i.window st2 n.turns)
       (stream_more i.stream d turns (agree_first c front rest agree)) (λ n. joined_more d n.value i.stream before i.window n.turns (agree_rest c front rest agree))
 
-  items_more : (ps : List ClausePart) (before : List ℕ) (turns : ℕ) → Agree c (parts_notes s before ps) → items_claims c.file ps st turns ≡ items_claims c.file ps st2 turns
+  items_more : (ps : List ClauseMember) (before : List ℕ) (turns : ℕ) → Agree c (members_notes s before ps) → items_claims c.file ps st turns ≡ items_claims c.file ps st2 turns
   items_more [] before turns agree = refl
   items_more (Private n ∷ ps) before turns agree = items_more ps (n.id ∷ before) turns agree.1.1
   items_more (Item d i ∷ ps) before turns agree =
-      let front = part_notes s before (Item d i) in
-      let rest = parts_notes s ((part_name (Item d i)).id ∷ before) ps in
+      let front = member_notes s before (Item d i) in
+      let rest = members_notes s ((member_name (Item d i)).id ∷ before) ps in
       same_then (item_claim c.file d i st turns) (item_claim c.file d i st2 turns) (λ x. and_then (items_claims c.file ps st x.turns) (λ xs. Ok (left (x.value ∷ xs.value) xs.turns)))
       (λ x. and_then (items_claims c.file ps st2 x.turns) (λ xs. Ok (left (x.value ∷ xs.value) xs.turns))) (item_more d i before turns (agree_first c front rest agree))
-      (λ x. ap (λ a. and_then a (λ xs. Ok (left (x.value ∷ xs.value) xs.turns))) (items_more ps ((part_name (Item d i)).id ∷ before) x.turns (agree_rest c front rest agree)))
+      (λ x. ap (λ a. and_then a (λ xs. Ok (left (x.value ∷ xs.value) xs.turns))) (items_more ps ((member_name (Item d i)).id ∷ before) x.turns (agree_rest c front rest agree)))
 
   captured_more : (xs : List Scalar) → AreScalars s.entries xs → captured_values c.file st (map (λ (x : Scalar). x.id) xs) ≡ captured_values c.file st2 (map (λ (x : Scalar). x.id) xs)
   captured_more [] h = refl
@@ -102,13 +102,13 @@ module _ (c : Context) (more : List Binding) (apart : AreElse c.file more) (sees
       by_entity None there has = absurd (cc)
       by_entity (Some d) there has = sees s es st.bound x.id d is same there
 
-  pub task_same : (sites : List Site) (mark : Mark) (cs : List tree.ClauseTree) (a : tree.StmtTree) (turns : ℕ) → Agree c (parts_notes s [] (parts cs)) → IsNamed sites s mark cs a →
-      SameRan c more (exactly es) es (run_task c.file sites (task_number sites mark) (parts cs) st turns) (run_task c.file sites (task_number sites mark) (parts cs) st2 turns)
+  pub task_same : (sites : List Site) (mark : Mark) (cs : List tree.ClauseTree) (a : tree.StmtTree) (turns : ℕ) → Agree c (members_notes s [] (members cs)) → IsNamed sites s mark cs a →
+      SameRan c more (exactly es) es (run_task c.file sites (task_number sites mark) (members cs) st turns) (run_task c.file sites (task_number sites mark) (members cs) st2 turns)
   task_same sites mark cs a turns agree (number, is_number, captures) =
-      subst (λ o. SameRan c more (exactly es) es (run_task c.file sites o (parts cs) st turns) (run_task c.file sites o (parts cs) st2 turns)) (sym is_number)
-      (given_same c more st (items_claims c.file (parts cs) st turns) (items_claims c.file (parts cs) st2 turns)
+      subst (λ o. SameRan c more (exactly es) es (run_task c.file sites o (members cs) st turns) (run_task c.file sites o (members cs) st2 turns)) (sym is_number)
+      (given_same c more st (items_claims c.file (members cs) st turns) (items_claims c.file (members cs) st2 turns)
       (λ x. unless_limited (limit st.activations x.value) st x.turns (with_activation c.file number names x.value st))
-      (λ x. unless_limited (limit st.activations x.value) st2 x.turns (with_activation c.file number names x.value st2)) (items_more (parts cs) [] turns agree)
+      (λ x. unless_limited (limit st.activations x.value) st2 x.turns (with_activation c.file number names x.value st2)) (items_more (members cs) [] turns agree)
       (λ x q. created x.value x.turns (limit st.activations x.value)))
     where
       names : List ℕ
@@ -116,7 +116,7 @@ module _ (c : Context) (more : List Binding) (apart : AreElse c.file more) (sees
 
       values : captured_values c.file st names ≡ captured_values c.file st2 names
       values =
-          ap (captured_values c.file st) captures ∙ captured_more (captured s.entries (parts cs) a) (captured_scalars s.entries _) ∙ ap (captured_values c.file st2) (sym captures)
+          ap (captured_values c.file st) captures ∙ captured_more (captured s.entries (members cs) a) (captured_scalars s.entries _) ∙ ap (captured_values c.file st2) (sym captures)
 
       created : (claims : List Claim) (left_turns : ℕ) (o : Option ControlLimit) →
           SameRan c more (exactly es) es (unless_limited o st left_turns (with_activation c.file number names claims st)) (unless_limited o st2 left_turns (with_activation c.file number names claims st2))

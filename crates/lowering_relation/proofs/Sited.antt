@@ -25,7 +25,7 @@ use Rattle.cddf_meaning.specs.declared.site.Site.{Site}
 use Rattle.cddf_meaning.specs.declared.variable.Variable.{Variable}
 use Rattle.cddf_meaning.specs.declared.variable.Variable.TheVariants.{Constant, Function, Scalar, Array, Window, Stream, Item}
 use Rattle.flow_core_laws.specs.declared.activation.Activation.{Activation}
-use Rattle.os_ast.specs.ClauseParts.{ClausePart, parts}
+use Rattle.os_ast.specs.ClauseMembers.{ClauseMember, members}
 use Rattle.os_ast.specs.Trees as tree
 use Rattle.os_ast.specs.Unsigned.{is_unsigned}
 use Rattle.os_ast.specs.declared.expr.Mark.{Mark}
@@ -188,7 +188,7 @@ module _ (n : ℕ) where
   limited_sited None s next turns h k = k
   limited_sited (Some limit) s next turns h k = h
 
-  task_sited : (file : File) (sites : List Site) (number : Option ℕ) (ps : List ClausePart) → ((k : ℕ) → number ≡ Some k → k < n)
+  task_sited : (file : File) (sites : List Site) (number : Option ℕ) (ps : List ClauseMember) → ((k : ℕ) → number ≡ Some k → k < n)
       → RunsSited (run_task file sites number ps)
   task_sited file sites None ps below s turns h = h
   task_sited file sites (Some number) ps below s turns h =
@@ -233,7 +233,7 @@ module _ (u : Around) (n : ℕ) (below : (m : Mark) (k : ℕ) → task_number u.
     run_sited (tree.Break m) s turns h = h
     run_sited (tree.Continue m) s turns h = h
     run_sited (tree.Return m e) s turns h = given_sited n s (value u.file e s turns) (λ v. Went (Returns v.value) s v.turns) h (λ v. h)
-    run_sited (tree.Task m cs a) s turns h = task_sited n u.file u.sites (task_number u.sites m) (parts cs) (below m) s turns h
+    run_sited (tree.Task m cs a) s turns h = task_sited n u.file u.sites (task_number u.sites m) (members cs) (below m) s turns h
     run_sited (tree.Tick m t arrow e) s turns h = tick_sited n u.file t arrow e s turns h
     run_sited (tree.Taskwait m) s turns h = h
 

@@ -4,12 +4,12 @@ use Rattle.std.proofs.lemmas.List.{length-map}
 use Rattle.std.specs.Prelude.{⊤, All}
 use Rattle.os_ast.specs.Captured.{Scalar, captured, slots_of}
 use Rattle.os_ast.specs.Names.{Scope, enter, in_loop, typed}
-use Rattle.os_ast.specs.Notes.Clauses.{in_task, captured_in, in_task_body, window_notes, part_notes, parts_notes, clauses_notes}
+use Rattle.os_ast.specs.Notes.Clauses.{in_task, captured_in, in_task_body, window_notes, member_notes, members_notes, clauses_notes}
 use Rattle.os_ast.specs.Notes.Declarators.{after_start, start_notes}
 use Rattle.os_ast.specs.Notes.Expressions.{expr_notes, place_notes, value_notes, step_notes}
 use Rattle.os_ast.specs.Notes.Kinds.{Note, Task}
 use Rattle.os_ast.specs.Notes.Statements.{after_stmt, stmt_notes, stmts_notes}
-use Rattle.os_ast.specs.ClauseParts.{ClausePart, Item, Private, part_name, parts, count_items}
+use Rattle.os_ast.specs.ClauseMembers.{ClauseMember, Item, Private, member_name, members, count_items}
 use Rattle.os_ast.specs.Trees as tree
 use Rattle.os_ast.specs.Violations.{main_task, captures}
 use Rattle.os_ast.specs.declared.names.Direction.{Direction}
@@ -93,17 +93,17 @@ module _ (h : Home) where
     stmt_caught (tree.Continue m) s fit = tt
     stmt_caught (tree.Return m e) s fit = subst AllCaught (sym (none_expr e s)) tt
     stmt_caught (tree.Task m cs a) s fit =
-        let ps = parts cs in
+        let ps = members cs in
         let inner = in_task_body s ps a in
         let x = clauses_notes s m ps a in
         let y = stmt_notes inner a in
         let all = captured s.entries ps a in
         let note = Task s m (count_items ps) all ∷ [] in
         let own : inner.owner ≡ owner.OfTask = items_owner ps s (in_task s (captured_in s.owner (slots_of all))) 0 in
-        let fits = (fit_rest h (parts_notes s [] ps) note fit).0 in
+        let fits = (fit_rest h (members_notes s [] ps) note fit).0 in
         let none : captures y ≡ [] = none_stmt a inner (λ e. let z : owner.OfTask ≡ owner.OfMain = sym own ∙ e in absurd (cc)) in
         subst AllCaught (sym (captures_both x y))
-        (caught_both (captures x) (captures y) (caught_behind (parts_notes s [] ps) note (none_parts ps s []) (caught_of s.owner all fits.2 fits.3)) (subst AllCaught (sym none) tt))
+        (caught_both (captures x) (captures y) (caught_behind (members_notes s [] ps) note (none_parts ps s []) (caught_of s.owner all fits.2 fits.3)) (subst AllCaught (sym none) tt))
     stmt_caught (tree.Tick m t arrow e) s fit =
         subst AllCaught (sym (none_both (place_notes s (role.Flow direction.Reads) t) (expr_notes s e) (none_place t s (role.Flow direction.Reads)) (none_expr e s))) tt
     stmt_caught (tree.Taskwait m) s fit = tt
@@ -132,7 +132,7 @@ module _ (h : Home) where
   window_below (what.Element item) slot fits is = absurd (cc)
   window_below (what.View item) slot fits is = absurd (cc)
 
-  item_fits : (d : Direction) (i : tree.ClauseItemTree) (s : Scope) (before : List ℕ) → AllFit h (part_notes s before (Item d i)) →
+  item_fits : (d : Direction) (i : tree.ClauseItemTree) (s : Scope) (before : List ℕ) → AllFit h (member_notes s before (Item d i)) →
       ItemFits (site_item (tells h) d i)
   item_fits d i s before fit = record {
     stream = stream_fits h d i.stream s (fit_first h (place_notes s (role.Flow d) i.stream) (window_notes s before i.stream i.window) fit);
@@ -143,18 +143,18 @@ module _ (h : Home) where
       by_window None slot fit is = absurd (cc)
       by_window (Some j) slot fit is = window_below (tells h j.name.mark.place).what slot fit.1.0 is
 
-  items_fit : (ps : List ClausePart) (s : Scope) (before : List ℕ) → AllFit h (parts_notes s before ps) → All ItemFits (site_items (tells h) ps)
+  items_fit : (ps : List ClauseMember) (s : Scope) (before : List ℕ) → AllFit h (members_notes s before ps) → All ItemFits (site_items (tells h) ps)
   items_fit [] s before fit = all_none ItemFits
-  items_fit (Private n ∷ ps) s before fit = items_fit ps s ((part_name (Private n)).id ∷ before) fit.1.1
+  items_fit (Private n ∷ ps) s before fit = items_fit ps s ((member_name (Private n)).id ∷ before) fit.1.1
   items_fit (Item d i ∷ ps) s before fit =
-      let here = part_notes s before (Item d i) in
-      let rest = parts_notes s ((part_name (Item d i)).id ∷ before) ps in
-      all_more ItemFits (site_item (tells h) d i) (site_items (tells h) ps) (item_fits d i s before (fit_first h here rest fit)) (items_fit ps s ((part_name (Item d i)).id ∷ before) (fit_rest h here rest fit))
+      let here = member_notes s before (Item d i) in
+      let rest = members_notes s ((member_name (Item d i)).id ∷ before) ps in
+      all_more ItemFits (site_item (tells h) d i) (site_items (tells h) ps) (item_fits d i s before (fit_first h here rest fit)) (items_fit ps s ((member_name (Item d i)).id ∷ before) (fit_rest h here rest fit))
 
   -- the items of a task
   pub record TaskFits (t : TaskTree) : Type 0 where
-    pub few : count_items t.parts ≤ 8
-    pub items : All ItemFits (site_items (tells h) t.parts)
+    pub few : count_items t.members ≤ 8
+    pub items : All ItemFits (site_items (tells h) t.members)
 
   abbrev pub AllTasks : List TaskTree → Type 0
   AllTasks [] = ⊤
@@ -189,9 +189,9 @@ module _ (h : Home) where
     stmt_tasks (tree.Continue m) s fit = tt
     stmt_tasks (tree.Return m e) s fit = tt
     stmt_tasks (tree.Task m cs a) s fit =
-        let ps = parts cs in
+        let ps = members cs in
         let note = Task s m (count_items ps) (captured s.entries ps a) ∷ [] in
-        (record { few = (fit_rest h (parts_notes s [] ps) note fit).0.1; items = items_fit ps s [] (fit_first h (parts_notes s [] ps) note fit) }, tt)
+        (record { few = (fit_rest h (members_notes s [] ps) note fit).0.1; items = items_fit ps s [] (fit_first h (members_notes s [] ps) note fit) }, tt)
     stmt_tasks (tree.Tick m t arrow e) s fit = tt
     stmt_tasks (tree.Taskwait m) s fit = tt
 

@@ -5,12 +5,12 @@ use Rattle.os_ast.specs.Captured.{captured}
 use Rattle.os_ast.specs.Limits.{is_size}
 use Rattle.os_ast.specs.Meanings.{meaning_in}
 use Rattle.os_ast.specs.Names.{Scope, lookup, entity_of, enter, in_loop, typed, flag_of}
-use Rattle.os_ast.specs.Notes.Clauses.{in_task_body, parts_notes, window_notes, clauses_notes}
+use Rattle.os_ast.specs.Notes.Clauses.{in_task_body, members_notes, window_notes, clauses_notes}
 use Rattle.os_ast.specs.Notes.Declarators.{limited, constant_of, size_value, size_of, size_told, form, form_with, is_window, after_declarator, declarator_notes, declarators_notes, size_notes, sized_notes, after_start, start_notes}
 use Rattle.os_ast.specs.Notes.Expressions.{expr_notes, place_notes, args_notes, links_notes, value_notes, index_notes, change_notes, step_notes}
 use Rattle.os_ast.specs.Notes.Kinds.{Note, Used, Sized, Declared, Parameter, Global, Left, Returned, Pragma, Task, Listed}
 use Rattle.os_ast.specs.Notes.Statements.{after_stmt, stmt_notes, stmts_notes}
-use Rattle.os_ast.specs.ClauseParts.{ClausePart, Item, Private, parts, part_name, count_items}
+use Rattle.os_ast.specs.ClauseMembers.{ClauseMember, Item, Private, members, member_name, count_items}
 use Rattle.os_ast.specs.Rules.{has_no_size, has_too_many}
 use Rattle.os_ast.specs.Trees as tree
 use Rattle.os_ast.specs.Violations.{constant_meaning}
@@ -100,13 +100,13 @@ module _ (size : tree.ExprTree → ℕ) where
   window_sizes s before stream None = tt
   window_sizes s before stream (Some j) = index_sizes j.burst s
 
-  parts_sizes : (ps : List ClausePart) (s : Scope) (before : List ℕ) → HasSizes size (parts_notes s before ps)
+  parts_sizes : (ps : List ClauseMember) (s : Scope) (before : List ℕ) → HasSizes size (members_notes s before ps)
   parts_sizes [] s before = tt
   parts_sizes (Private n ∷ ps) s before = parts_sizes ps s (n.id ∷ before)
   parts_sizes (Item d i ∷ ps) s before =
-      sizes_both (place_notes s (role.Flow d) i.stream ++ window_notes s before i.stream i.window) (parts_notes s ((part_name (Item d i)).id ∷ before) ps)
+      sizes_both (place_notes s (role.Flow d) i.stream ++ window_notes s before i.stream i.window) (members_notes s ((member_name (Item d i)).id ∷ before) ps)
       (sizes_both (place_notes s (role.Flow d) i.stream) (window_notes s before i.stream i.window) (place_sizes i.stream s (role.Flow d)) (window_sizes s before i.stream i.window))
-      (parts_sizes ps s ((part_name (Item d i)).id ∷ before))
+      (parts_sizes ps s ((member_name (Item d i)).id ∷ before))
 
   sized_sizes : (s : Scope) (e : tree.ExprTree) → HasSizes size (size_notes s e)
   sized_sizes s (tree.Number n) = tt
@@ -281,9 +281,9 @@ module _ (rs : List Resolved) (ordered : InOrder rs) where
     stmt_sizes (tree.Continue m) s lawful tells = tt
     stmt_sizes (tree.Return m e) s lawful tells = expr_sizes size e s
     stmt_sizes (tree.Task m cs a) s lawful tells =
-        let x = clauses_notes s m (parts cs) a in
-        let inner = in_task_body s (parts cs) a in
-        sizes_both size x (stmt_notes inner a) (sizes_both size (parts_notes s [] (parts cs)) (Task s m (count_items (parts cs)) (captured s.entries (parts cs) a) ∷ []) (parts_sizes size (parts cs) s []) tt)
+        let x = clauses_notes s m (members cs) a in
+        let inner = in_task_body s (members cs) a in
+        sizes_both size x (stmt_notes inner a) (sizes_both size (members_notes s [] (members cs)) (Task s m (count_items (members cs)) (captured s.entries (members cs) a) ∷ []) (parts_sizes size (members cs) s []) tt)
         (stmt_sizes a inner (lawful-rest x (stmt_notes inner a) lawful) (tells-rest rs x (stmt_notes inner a) tells))
     stmt_sizes (tree.Tick m t arrow e) s lawful tells =
         sizes_both size (Pragma s m ∷ place_notes s (role.Flow direction.Reads) t) (expr_notes s e) (place_sizes size t s (role.Flow direction.Reads)) (expr_sizes size e s)

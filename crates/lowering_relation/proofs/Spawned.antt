@@ -2,7 +2,7 @@
 use Rattle.std.proofs.Common.{◌≡◌, ℕ, suc, ◌+◌, ◌*◌, List, [], ◌∷◌, length, Some, None, slice_get, refl, sym, ap, ◌∙◌, subst, arith}
 use Rattle.std.proofs.lemmas.Option.{slice_get_within}
 use Rattle.std.specs.Option.{option_map_or}
-use Rattle.os_ast.specs.ClauseParts.{ClausePart, Item, Private, count_items}
+use Rattle.os_ast.specs.ClauseMembers.{ClauseMember, Item, Private, count_items}
 use Rattle.os_ast.specs.declared.names.Resolved.{Resolved}
 use Rattle.os_code.specs.declared.site.Site.{Site}
 use Rattle.lowering_relation.specs.Programs.{HasTask}
@@ -10,7 +10,7 @@ use Rattle.lowering_relation.specs.Tasks.{TaskTree, task_index, site_items}
 use Rattle.lowering_relation.proofs.Homes.{Home, AreSpawned}
 use Rattle.lowering_relation.proofs.TaskMarks.{Rises, place_of, position_is}
 
-pub items_length : (tells : ℕ → Resolved) (ps : List ClausePart) → length (site_items tells ps) ≡ count_items ps
+pub items_length : (tells : ℕ → Resolved) (ps : List ClauseMember) → length (site_items tells ps) ≡ count_items ps
 items_length tells [] = refl
 items_length tells (Private n ∷ ps) = items_length tells ps
 items_length tells (Item d i ∷ ps) = ap suc (items_length tells ps)
@@ -36,7 +36,7 @@ module _ (h : Home) (tells : ℕ → Resolved) (captured : List (List ℕ)) (lo 
         let same : k ≡ number = cc in
         let task = has number t (subst (λ n. slice_get h.body.tasks n ≡ Some t) same at_k) in (
           ap (λ o. option_map_or (λ (site : Site). 2 * length site.items) o 0) task.is_site
-              ∙ omega (arith, ap (λ xs. length xs) task.items, items_length tells t.parts),
+              ∙ omega (arith, ap (λ xs. length xs) task.items, items_length tells t.members),
           slice_get_within h.code.sites number task.site task.is_site,
         ),
     all_spawned ts (suc k) (λ j u is.

@@ -15,10 +15,10 @@ use Rattle.flow_core_laws.specs.declared.claim.Claim.{Claim}
 use Rattle.flow_core_laws.specs.Window.{claims_of, horizon_sum}
 use Rattle.os_ast.specs.Captured.{Scalar, captured, slots_of}
 use Rattle.os_ast.specs.Names.{Scope, lookup, entity_of}
-use Rattle.os_ast.specs.Notes.Clauses.{in_task_body, parts_notes, clauses_notes}
+use Rattle.os_ast.specs.Notes.Clauses.{in_task_body, members_notes, clauses_notes}
 use Rattle.os_ast.specs.Notes.Kinds.{Task}
 use Rattle.os_ast.specs.Notes.Statements.{stmt_notes}
-use Rattle.os_ast.specs.ClauseParts.{parts, count_items}
+use Rattle.os_ast.specs.ClauseMembers.{members, count_items}
 use Rattle.os_ast.specs.Trees as tree
 use Rattle.os_ast.specs.declared.expr.Mark.{Mark}
 use Rattle.os_ast.specs.declared.names.Entity.{Entity}
@@ -54,10 +54,10 @@ pub record IsSite (code : Parts) (tells : ℕ → Resolved) (sites : List Meanin
   pub site : Site
   pub in_code : task_index tasks mark ≡ Some number
   pub in_meaning : task_number sites mark ≡ Some number
-  pub ids : captured_by sites number ≡ map (λ (x : Scalar). x.id) (captured s.entries (parts cs) a)
+  pub ids : captured_by sites number ≡ map (λ (x : Scalar). x.id) (captured s.entries (members cs) a)
   pub is_site : site_at code number ≡ Some site
-  pub items : site.items ≡ site_items tells (parts cs)
-  pub slots : site.captured ≡ slots_of (captured s.entries (parts cs) a)
+  pub items : site.items ≡ site_items tells (members cs)
+  pub slots : site.captured ≡ slots_of (captured s.entries (members cs) a)
 
 module _ (code : Parts) (file : File) (falls : CallsFall file) (names : List Resolved) (ordered : InOrder names) (file_es : List Entry) (fits : FileFits code file file_es) (streams later : ℕ) (all : streams ≤ code.streams)
     (callers : List Frame) (leaves : Instr) (total : ℕ) (sites : List MeaningSite) (tasks : List TaskTree) where
@@ -158,14 +158,14 @@ module _ (code : Parts) (file : File) (falls : CallsFall file) (names : List Res
 
   pub task_does : (mark : Mark) (cs : List tree.ClauseTree) (a : tree.StmtTree) → StmtDoes c callers leaves total sites tasks site_known (tree.Task mark cs a)
   task_does mark cs a s es st m broke continued next from to stack turns ready stacked fits2 len agree own h =
-      let ps = parts cs in
+      let ps = members cs in
       let note = Task s mark (count_items ps) (captured s.entries ps a) ∷ [] in
       let front = agree_first c (clauses_notes s mark ps a) (stmt_notes (in_task_body s ps a) a) agree in
       let number : own.number ≡ h.0 = let e : Some own.number ≡ Some h.0 = sym own.in_code ∙ h.2 in cc in
       let ids = captured_by sites own.number in
       subst (λ o. Does code (at callers from stack m turns) (settled c callers leaves total next broke continued stack (exactly es) es) (run_task file sites o ps st turns)) (sym own.in_meaning)
       (given_does st m (λ x. unless_limited (limit st.activations x.value) st x.turns (with_activation file own.number ids x.value st)) refl ready.kept
-      (items_run code file falls names ordered file_es fits streams later all callers s es st m ready ps [] from h.1 stack turns (agree_first c (parts_notes s [] ps) note front) h.3)
+      (items_run code file falls names ordered file_es fits streams later all callers s es st m ready ps [] from h.1 stack turns (agree_first c (members_notes s [] ps) note front) h.3)
       (λ x w q.
       spawn_does s es st m ready own.number own.site ids w.0 stack x.value x.turns h.1 next broke continued own.is_site (let n = ap length own.items in let k = w.2 in omega (arith, n, k))
       (ap (λ items. spawned_claims code.streams m.slots items w.0) own.items ∙ w.1) w.3

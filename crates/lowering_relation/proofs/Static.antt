@@ -6,7 +6,7 @@ use Rattle.os_ast.specs.Names.{Scope, declare, flagged, typed, enter, in_loop}
 use Rattle.os_ast.specs.Notes.Clauses.{with_items, in_task, in_task_body, captured_in, item_entity, item_flag}
 use Rattle.os_ast.specs.Notes.Declarators.{after_declarator, after_declarators, after_start, taken, form, declared_entity}
 use Rattle.os_ast.specs.Notes.Statements.{after_stmt, after_stmts}
-use Rattle.os_ast.specs.ClauseParts.{ClausePart, Item, Private, parts, item_name}
+use Rattle.os_ast.specs.ClauseMembers.{ClauseMember, Item, Private, members, item_name}
 use Rattle.os_ast.specs.Trees as tree
 use Rattle.os_ast.specs.declared.names.Entry.{Entry}
 use Rattle.os_ast.specs.declared.names.Form.{Form}
@@ -119,7 +119,7 @@ start_onward (tree.StartTree.Declare ty ds) s = typed_onward ty s (after_declara
 start_onward (tree.StartTree.Change c) s = here s
 
 -- the clauses of a task declare no stream
-pub items_streams : (s inner : Scope) (n : ℕ) (ps : List ClausePart) → (with_items s inner n ps).streams ≡ inner.streams
+pub items_streams : (s inner : Scope) (n : ℕ) (ps : List ClauseMember) → (with_items s inner n ps).streams ≡ inner.streams
 items_streams s inner n [] = refl
 items_streams s inner n (Item d i ∷ ps) = items_streams s (declare (flagged (item_flag s i) inner) (item_name i.stream i.window).id (item_entity s n d i)) (suc n) ps
 items_streams s inner n (Private p ∷ ps) = items_streams s inner n ps
@@ -142,9 +142,9 @@ mutual
   stmt_onward (tree.Continue m) s = here s
   stmt_onward (tree.Return m e) s = here s
   stmt_onward (tree.Task m cs a) s =
-      let inner = in_task_body s (parts cs) a in
-      let round = in_task s (captured_in s.owner (slots_of (captured s.entries (parts cs) a))) in
-      let x : inner.streams ≡ round.streams = items_streams s round 0 (parts cs) in
+      let inner = in_task_body s (members cs) a in
+      let round = in_task s (captured_in s.owner (slots_of (captured s.entries (members cs) a))) in
+      let x : inner.streams ≡ round.streams = items_streams s round 0 (members cs) in
       let y = stmt_onward a inner in
       record { owner = refl; captured = refl; depth = refl; slots = omega arith; streams = omega (arith, x, y.streams) }
   stmt_onward (tree.Tick m t arrow e) s = here s

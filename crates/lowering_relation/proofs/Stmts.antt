@@ -12,12 +12,12 @@ use Rattle.cddf_meaning.proofs.Falls.{value-falls}
 use Rattle.cddf_meaning.proofs.Keeps.{run-keeps}
 use Rattle.os_ast.specs.Leveled.{IsStmt, AreStmts}
 use Rattle.os_ast.specs.Names.{Scope, enter, in_loop, typed}
-use Rattle.os_ast.specs.Notes.Clauses.{in_task_body, parts_notes, clauses_notes}
+use Rattle.os_ast.specs.Notes.Clauses.{in_task_body, members_notes, clauses_notes}
 use Rattle.os_ast.specs.Notes.Declarators.{after_declarators, declarators_notes, after_start, start_notes}
 use Rattle.os_ast.specs.Notes.Expressions.{expr_notes, value_notes, change_notes, step_notes}
 use Rattle.os_ast.specs.Notes.Kinds.{Task}
 use Rattle.os_ast.specs.Notes.Statements.{after_stmt, after_stmts, stmt_notes, stmts_notes}
-use Rattle.os_ast.specs.ClauseParts.{parts, count_items}
+use Rattle.os_ast.specs.ClauseMembers.{members, count_items}
 use Rattle.os_ast.specs.Captured.{captured}
 use Rattle.os_ast.specs.Rules.{is_main_body}
 use Rattle.os_ast.specs.Trees as tree
@@ -262,8 +262,8 @@ module _ (c : Context) (callers : List Frame) (leaves : Instr) (total : ℕ) (si
           given_does st m (λ n. Went (Returns n.value) st n.turns) refl ready.kept (expr_runs c callers s es st m ready e from h.0 stack turns agree.1 h.1)
           (λ n u q. went (Returns n.value) st n.turns (m, len, ready.kept, (h.0, h.2.0)) stays)
       stmt_does (IsStmt.task {m = mark} {cs = cs} {s = a} _ _) s es st m broke continued next from to stack turns ready stacked fits len agree own h =
-          let front = agree_first c (clauses_notes s mark (parts cs) a) (stmt_notes (in_task_body s (parts cs) a) a) agree in
-          let note = agree_rest c (parts_notes s [] (parts cs)) (Task s mark (count_items (parts cs)) (captured s.entries (parts cs) a) ∷ []) front in
+          let front = agree_first c (clauses_notes s mark (members cs) a) (stmt_notes (in_task_body s (members cs) a) a) agree in
+          let note = agree_rest c (members_notes s [] (members cs)) (Task s mark (count_items (members cs)) (captured s.entries (members cs) a) ∷ []) front in
           task_does (sym ready.scope.owner ∙ main_pragma s.owner note.0.0.1.1.1.1.1.1.1.0) mark cs a s es st m broke continued next from to stack turns ready stacked fits len agree own h
       stmt_does (IsStmt.tick {m = mark} {t = t} {a = arrow} {e = e} _ _) s es st m broke continued next from to stack turns ready stacked fits len agree own h =
           tick_does (sym ready.scope.owner ∙ main_pragma s.owner agree.0.0.1.1.1.1.1.1.1.0) mark t arrow e s es st m broke continued next from to stack turns ready stacked fits len agree own h

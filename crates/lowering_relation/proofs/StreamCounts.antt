@@ -9,7 +9,7 @@ use Rattle.os_ast.specs.Notes.Expressions.{expr_notes, value_notes, step_notes}
 use Rattle.os_ast.specs.Notes.Programs.{owner_of, param_list, round_body, after_param, after_params, after_item, after_items, in_body}
 use Rattle.os_ast.specs.Notes.Programs as programs
 use Rattle.os_ast.specs.Notes.Statements.{after_stmt, after_stmts, stmt_notes, stmts_notes}
-use Rattle.os_ast.specs.ClauseParts.{parts}
+use Rattle.os_ast.specs.ClauseMembers.{members}
 use Rattle.os_ast.specs.Rules.{is_outermost}
 use Rattle.os_ast.specs.Trees as tree
 use Rattle.os_ast.specs.declared.names.Owner.{Owner}
@@ -91,11 +91,11 @@ mutual
   stmt_streams IsStmt.continue s deep h = refl
   stmt_streams (IsStmt.return _) s deep h = refl
   stmt_streams (IsStmt.task {m = m} {cs = cs} {s = a} _ is) s deep h =
-      let inner = in_task_body s (parts cs) a in
-      let round = in_task s (captured_in s.owner (slots_of (captured s.entries (parts cs) a))) in
-      let own : inner.owner ≡ owner.OfTask = items_owner (parts cs) s round 0 in
-      stmt_streams is inner (λ e. let z : owner.OfTask ≡ owner.OfMain = sym own ∙ e in absurd (cc)) (lawful-rest (clauses_notes s m (parts cs) a) (stmt_notes inner a) h)
-      ∙ items_streams s round 0 (parts cs)
+      let inner = in_task_body s (members cs) a in
+      let round = in_task s (captured_in s.owner (slots_of (captured s.entries (members cs) a))) in
+      let own : inner.owner ≡ owner.OfTask = items_owner (members cs) s round 0 in
+      stmt_streams is inner (λ e. let z : owner.OfTask ≡ owner.OfMain = sym own ∙ e in absurd (cc)) (lawful-rest (clauses_notes s m (members cs) a) (stmt_notes inner a) h)
+      ∙ items_streams s round 0 (members cs)
   stmt_streams (IsStmt.tick _ _) s deep h = refl
   stmt_streams IsStmt.taskwait s deep h = refl
 

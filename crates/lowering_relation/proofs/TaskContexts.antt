@@ -13,7 +13,7 @@ use Rattle.os_ast.specs.Names.{Scope, lookup, entity_of, declare, flag_of, flagg
 use Rattle.os_ast.specs.Notes.Clauses.{item_entity, with_items, in_task, captured_in, in_task_body, item_flag}
 use Rattle.os_ast.specs.Notes.Kinds.{Note, Used, Sized, Declared, Parameter, Global, Left, Returned, Pragma, Task, Listed}
 use Rattle.os_ast.specs.Notes.Statements.{stmt_notes}
-use Rattle.os_ast.specs.ClauseParts.{ClausePart, Item, Private, parts, item_name, is_in, private_ids}
+use Rattle.os_ast.specs.ClauseMembers.{ClauseMember, Item, Private, members, item_name, is_in, private_ids}
 use Rattle.os_ast.specs.Rules.{is_changed, is_misplaced_stream, is_misplaced_window}
 use Rattle.os_ast.specs.Stacked.{main_extent}
 use Rattle.os_ast.specs.Stacked as text
@@ -41,27 +41,27 @@ use Rattle.window_check_laws.specs.Told.{KeepsAll, Tells, AreLawful, rules}
 use Rattle.window_check_laws.proofs.Named.{captured-members}
 
 -- the declarations of items, as they stand within others
-abbrev pub made_items : Scope → ℕ → ℕ → List ClausePart → List Entry → List Entry
+abbrev pub made_items : Scope → ℕ → ℕ → List ClauseMember → List Entry → List Entry
 made_items s depth item [] es = es
 made_items s depth item (Item d i ∷ ps) es = made_items s depth (suc item) ps (record { id = (item_name i.stream i.window).id; depth = depth; entity = item_entity s item d i; unsigned = item_flag s i } ∷ es)
 made_items s depth item (Private n ∷ ps) es = made_items s depth item ps es
 
-pub items_entries : (s inner : Scope) (ps : List ClausePart) (item : ℕ) → (with_items s inner item ps).entries ≡ made_items s inner.depth item ps inner.entries
+pub items_entries : (s inner : Scope) (ps : List ClauseMember) (item : ℕ) → (with_items s inner item ps).entries ≡ made_items s inner.depth item ps inner.entries
 items_entries s inner [] item = refl
 items_entries s inner (Item d i ∷ ps) item = items_entries s (declare (flagged (item_flag s i) inner) (item_name i.stream i.window).id (item_entity s item d i)) ps (suc item)
 items_entries s inner (Private n ∷ ps) item = items_entries s inner ps item
 
-pub items_captured : (s inner : Scope) (ps : List ClausePart) (item : ℕ) → (with_items s inner item ps).captured ≡ inner.captured
+pub items_captured : (s inner : Scope) (ps : List ClauseMember) (item : ℕ) → (with_items s inner item ps).captured ≡ inner.captured
 items_captured s inner [] item = refl
 items_captured s inner (Item d i ∷ ps) item = items_captured s (declare (flagged (item_flag s i) inner) (item_name i.stream i.window).id (item_entity s item d i)) ps (suc item)
 items_captured s inner (Private n ∷ ps) item = items_captured s inner ps item
 
-pub items_slots : (s inner : Scope) (ps : List ClausePart) (item : ℕ) → (with_items s inner item ps).slots ≡ inner.slots
+pub items_slots : (s inner : Scope) (ps : List ClauseMember) (item : ℕ) → (with_items s inner item ps).slots ≡ inner.slots
 items_slots s inner [] item = refl
 items_slots s inner (Item d i ∷ ps) item = items_slots s (declare (flagged (item_flag s i) inner) (item_name i.stream i.window).id (item_entity s item d i)) ps (suc item)
 items_slots s inner (Private n ∷ ps) item = items_slots s inner ps item
 
-pub items_onto : (s : Scope) (depth item : ℕ) (ps : List ClausePart) (xs ys : List Entry) → made_items s depth item ps (xs ++ ys) ≡ made_items s depth item ps xs ++ ys
+pub items_onto : (s : Scope) (depth item : ℕ) (ps : List ClauseMember) (xs ys : List Entry) → made_items s depth item ps (xs ++ ys) ≡ made_items s depth item ps xs ++ ys
 items_onto s depth item [] xs ys = refl
 items_onto s depth item (Item d i ∷ ps) xs ys = items_onto s depth (suc item) ps (record { id = (item_name i.stream i.window).id; depth = depth; entity = item_entity s item d i; unsigned = item_flag s i } ∷ xs) ys
 items_onto s depth item (Private n ∷ ps) xs ys = items_onto s depth item ps xs ys
@@ -244,8 +244,8 @@ pub in_slots : (slot : ℕ) → is_in slot (slot ∷ []) ≡ true
 in_slots slot = ap (λ t. t || false) (eq-eqb slot slot refl)
 
 module _ (code : Parts) (file : File) (falls : CallsFall file) (rs : List Resolved) (ordered : InOrder rs) (file_es : List Entry) (fits : FileFits code file file_es) (t : MeaningTask) (slots : List ℕ) (there : TaskAt rs file_es t slots) (claims : List Claim) where
-  abbrev pub ps : List ClausePart
-  ps = parts there.clauses
+  abbrev pub ps : List ClauseMember
+  ps = members there.clauses
 
   abbrev pub cs : List Scalar
   cs = captured there.scope.entries ps there.body

@@ -25,7 +25,7 @@ use Rattle.flow_core_laws.specs.declared.outcome.Outcome.{Outcome}
 use Rattle.os_ast.specs.Captured.{captured}
 use Rattle.os_ast.specs.Names.{Scope}
 use Rattle.os_ast.specs.Notes.Statements.{after_stmt}
-use Rattle.os_ast.specs.ClauseParts.{ClausePart, Item, Private, parts, count_items}
+use Rattle.os_ast.specs.ClauseMembers.{ClauseMember, Item, Private, members, count_items}
 use Rattle.os_ast.specs.Stacked.{main_extent, begins, ends}
 use Rattle.os_ast.specs.Stacked as text
 use Rattle.os_ast.specs.declared.names.Entry.{Entry}
@@ -67,7 +67,7 @@ claims_fit streams [] (c ∷ claims) h = elim h [ ]
 claims_fit streams (i ∷ items) [] h = elim h [ ]
 claims_fit streams (i ∷ items) (c ∷ claims) h = let r = claims_fit streams items claims h.1 in (ap suc r.0, (h.0.some, r.1))
 
-items_counted : (tells : ℕ → Resolved) (qs : List ClausePart) → length (site_items tells qs) ≡ count_items qs
+items_counted : (tells : ℕ → Resolved) (qs : List ClauseMember) → length (site_items tells qs) ≡ count_items qs
 items_counted tells [] = refl
 items_counted tells (Private n ∷ qs) = items_counted tells qs
 items_counted tells (Item d i ∷ qs) = ap suc (items_counted tells qs)
@@ -158,13 +158,13 @@ module _ (code : Parts) (file : File) (falls : CallsFall file) (rs : List Resolv
   abbrev begun : BodyState
   begun = state_of (bound_round these a.captured) (item_lists a.claims inputs)
 
-  count_captured : length slots ≡ length (captured there.scope.entries (parts there.clauses) there.body)
-  count_captured = ap length there.captures ∙ length-map (captured there.scope.entries (parts there.clauses) there.body) _
+  count_captured : length slots ≡ length (captured there.scope.entries (members there.clauses) there.body)
+  count_captured = ap length there.captures ∙ length-map (captured there.scope.entries (members there.clauses) there.body) _
 
   ascends : Ascends 0 slots
   ascends =
       subst (Ascends 0) (sym there.captures)
-      (captured-ascends there.scope.entries (parts there.clauses) there.body there.scope.slots
+      (captured-ascends there.scope.entries (members there.clauses) there.body there.scope.slots
       (subst (λ o. text.Stacked (extent_in o) there.scope.slots there.scope.entries) there.in_main.owner there.in_main.stacked))
 
   frame_long : length (frame_slots has.unit a.captured) ≡ has.unit.slots
@@ -177,22 +177,22 @@ module _ (code : Parts) (file : File) (falls : CallsFall file) (rs : List Resolv
   aligned =
       let n = ap length same_slots in
       let k = count_captured in
-      subst (λ es. Aligned (resources (InTask a.claims)) (means c) m0.slots begun.bound es) (items_onto there.scope _ 0 (parts there.clauses) [] (caught_all code file falls rs ordered file_es fits t slots there a.claims))
-      (items_aligned slots a.claims m0.slots there.scope _ 0 (parts there.clauses) _ (caught_all code file falls rs ordered file_es fits t slots there a.claims)
-      (let z : length (site_items (told_at rs) (parts there.clauses)) ≡ count_items (parts there.clauses) = items_counted (told_at rs) (parts there.clauses) in
-      let y : length has.site.items ≡ length (site_items (told_at rs) (parts there.clauses)) = ap length has.items in
+      subst (λ es. Aligned (resources (InTask a.claims)) (means c) m0.slots begun.bound es) (items_onto there.scope _ 0 (members there.clauses) [] (caught_all code file falls rs ordered file_es fits t slots there a.claims))
+      (items_aligned slots a.claims m0.slots there.scope _ 0 (members there.clauses) _ (caught_all code file falls rs ordered file_es fits t slots there a.claims)
+      (let z : length (site_items (told_at rs) (members there.clauses)) ≡ count_items (members there.clauses) = items_counted (told_at rs) (members there.clauses) in
+      let y : length has.site.items ≡ length (site_items (told_at rs) (members there.clauses)) = ap length has.items in
       omega (arith, z, y, claims_ok.0))
-      (captured_aligned slots ascends there.scope.entries (resources (InTask a.claims)) m0.slots (captured there.scope.entries (parts there.clauses) there.body) a.captured 0 [] [] (captured_scalars there.scope.entries _) (points slots _ there.captures)
+      (captured_aligned slots ascends there.scope.entries (resources (InTask a.claims)) m0.slots (captured there.scope.entries (members there.clauses) there.body) a.captured 0 [] [] (captured_scalars there.scope.entries _) (points slots _ there.captures)
       (omega (arith, arguments, n, k)) (λ i lt. let z : 0 + i ≡ i = omega arith in ap (λ j. slot_at m0.slots j) z ∙ get_or_append_left a.captured (replicate (has.unit.slots - has.unit.args) (pos 0)) (pos 0) i lt) tt))
 
   stacked : Stacked (means c) in_body_of.slots ([] ++ c.bound)
   stacked =
       let k = count_captured in
       let f = first_slots code file falls rs ordered file_es fits t slots there a.claims in
-      subst (λ n. Stacked (means c) n c.bound) (let e : 0 + length (captured there.scope.entries (parts there.clauses) there.body) ≡ in_body_of.slots = omega (arith, k, f) in e)
-      (subst (λ es. Stacked (means c) (0 + length (captured there.scope.entries (parts there.clauses) there.body)) es) (items_onto there.scope _ 0 (parts there.clauses) [] (caught_all code file falls rs ordered file_es fits t slots there a.claims))
-      (items_stacked slots there.scope _ 0 _ (parts there.clauses) (caught_all code file falls rs ordered file_es fits t slots there a.claims)
-      (captured_stacked slots ascends there.scope.entries (captured there.scope.entries (parts there.clauses) there.body) 0 [] (captured_scalars there.scope.entries _) (points slots _ there.captures) tt)))
+      subst (λ n. Stacked (means c) n c.bound) (let e : 0 + length (captured there.scope.entries (members there.clauses) there.body) ≡ in_body_of.slots = omega (arith, k, f) in e)
+      (subst (λ es. Stacked (means c) (0 + length (captured there.scope.entries (members there.clauses) there.body)) es) (items_onto there.scope _ 0 (members there.clauses) [] (caught_all code file falls rs ordered file_es fits t slots there a.claims))
+      (items_stacked slots there.scope _ 0 _ (members there.clauses) (caught_all code file falls rs ordered file_es fits t slots there a.claims)
+      (captured_stacked slots ascends there.scope.entries (captured there.scope.entries (members there.clauses) there.body) 0 [] (captured_scalars there.scope.entries _) (points slots _ there.captures) tt)))
 
   room : (after_stmt in_body_of there.body).slots ≤ has.unit.slots
   room =

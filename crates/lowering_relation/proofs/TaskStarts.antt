@@ -16,7 +16,7 @@ use Rattle.os_ast.specs.Captured.{Scalar, slots_of}
 use Rattle.os_ast.specs.Meanings.{meaning_in, place_in}
 use Rattle.os_ast.specs.Names.{Scope, lookup, entity_of, flag_of}
 use Rattle.os_ast.specs.Notes.Clauses.{named_entity, item_entity, item_flag}
-use Rattle.os_ast.specs.ClauseParts.{ClausePart, Item, Private, item_name, item_ids, count_items}
+use Rattle.os_ast.specs.ClauseMembers.{ClauseMember, Item, Private, item_name, item_ids, count_items}
 use Rattle.os_ast.specs.Trees as tree
 use Rattle.os_ast.specs.declared.names.Direction.{Direction}
 use Rattle.os_ast.specs.declared.names.Entity.{Entity}
@@ -118,13 +118,13 @@ module _ (slots : List ℕ) where
   item_takes w item top (inl e) = subst (λ x. Takes x top top) (sym e) (omega arith)
   item_takes w item top (inr e) = subst (λ x. Takes x top top) (sym e) (omega arith)
 
-  pub items_stacked : (s : Scope) (depth item top : ℕ) (ps : List ClausePart) (xs : List Entry) → Stacked (meaning_in owner.OfTask slots) top xs → Stacked (meaning_in owner.OfTask slots) top (made_items s depth item ps xs)
+  pub items_stacked : (s : Scope) (depth item top : ℕ) (ps : List ClauseMember) (xs : List Entry) → Stacked (meaning_in owner.OfTask slots) top xs → Stacked (meaning_in owner.OfTask slots) top (made_items s depth item ps xs)
   items_stacked s depth item top [] xs st = st
   items_stacked s depth item top (Item d i ∷ ps) xs st =
       items_stacked s depth (suc item) top ps _ (top, item_takes (meaning_in owner.OfTask slots (item_entity s item d i)) item top (item_means s item d i), st)
   items_stacked s depth item top (Private n ∷ ps) xs st = items_stacked s depth item top ps xs st
 
-  pub items_aligned : (claims : List Claim) (held : List ℤ) (s : Scope) (depth item : ℕ) (ps : List ClausePart) (names : List Binding) (xs : List Entry) → item + count_items ps ≤ length claims →
+  pub items_aligned : (claims : List Claim) (held : List ℤ) (s : Scope) (depth item : ℕ) (ps : List ClauseMember) (names : List Binding) (xs : List Entry) → item + count_items ps ≤ length claims →
       Aligned (resources (InTask claims)) (meaning_in owner.OfTask slots) held names xs → Aligned (resources (InTask claims)) (meaning_in owner.OfTask slots) held (bind_items item (map (scoped_name s.entries) (item_ids ps)) names) (made_items s depth item ps xs)
   items_aligned claims held s depth item [] names xs le al = al
   items_aligned claims held s depth item (Item d i ∷ ps) names xs le al =

@@ -6,12 +6,12 @@ use Rattle.cddf_meaning.specs.Tasks.{Task as MeaningTask}
 use Rattle.os_ast.specs.Captured.{captured, slots_of}
 use Rattle.os_ast.specs.Leveled.{IsStmt, AreStmts}
 use Rattle.os_ast.specs.Names.{Scope, enter, in_loop, typed}
-use Rattle.os_ast.specs.Notes.Clauses.{in_task, captured_in, in_task_body, parts_notes, clauses_notes}
+use Rattle.os_ast.specs.Notes.Clauses.{in_task, captured_in, in_task_body, members_notes, clauses_notes}
 use Rattle.os_ast.specs.Notes.Declarators.{scalar_entity, after_declarator, after_declarators, declarators_notes, form, form_with, form_entity, sized_form, after_start, start_notes, size_of}
 use Rattle.os_ast.specs.Notes.Expressions.{expr_notes, place_notes, value_notes, step_notes}
 use Rattle.os_ast.specs.Notes.Kinds.{Note, Task}
 use Rattle.os_ast.specs.Notes.Statements.{after_stmt, stmt_notes, stmts_notes}
-use Rattle.os_ast.specs.ClauseParts.{parts, count_items}
+use Rattle.os_ast.specs.ClauseMembers.{members, count_items}
 use Rattle.os_ast.specs.Stacked.{main_extent}
 use Rattle.os_ast.specs.Stacked as text
 use Rattle.os_ast.specs.Trees as tree
@@ -64,12 +64,12 @@ pub record TaskAt (rs : List Resolved) (file : List Entry) (t : MeaningTask) (sl
   pub is : t ≡ scoped_task_at scope mark clauses body
   pub in_main : InMain file scope
   pub leveled : IsStmt body
-  pub lawful : AreLawful (stmt_notes (in_task_body scope (parts clauses) body) body)
-  pub tells : Tells rs (stmt_notes (in_task_body scope (parts clauses) body) body)
-  pub captures : slots ≡ slots_of (captured scope.entries (parts clauses) body)
+  pub lawful : AreLawful (stmt_notes (in_task_body scope (members clauses) body) body)
+  pub tells : Tells rs (stmt_notes (in_task_body scope (members clauses) body) body)
+  pub captures : slots ≡ slots_of (captured scope.entries (members clauses) body)
 
 abbrev pub strip : MeaningTask → TaskTree
-strip t = record { mark = t.mark; parts = t.parts; body = t.body }
+strip t = record { mark = t.mark; members = t.members; body = t.body }
 
 map_both : (xs ys : List MeaningTask) → map strip (xs ++ ys) ≡ map strip xs ++ map strip ys
 map_both [] ys = refl
@@ -211,14 +211,14 @@ module _ (rs : List Resolved) (file : List Entry) where
     match_stmt IsStmt.continue s h lawful tells = tt
     match_stmt (IsStmt.return {e = e} _) s h lawful tells = subst (Match []) (sym (none_expr e s)) tt
     match_stmt (IsStmt.task {m = mark} {cs = cs} {s = a} _ is) s h lawful tells =
-        let inner = in_task_body s (parts cs) a in
-        let x = clauses_notes s mark (parts cs) a in
+        let inner = in_task_body s (members cs) a in
+        let x = clauses_notes s mark (members cs) a in
         let y = stmt_notes inner a in
-        let note = Task s mark (count_items (parts cs)) (captured s.entries (parts cs) a) ∷ [] in
-        let slots = slots_of (captured s.entries (parts cs) a) in
-        let own : inner.owner ≡ owner.OfTask = items_owner (parts cs) s (in_task s (captured_in s.owner slots)) 0 in
+        let note = Task s mark (count_items (members cs)) (captured s.entries (members cs) a) ∷ [] in
+        let slots = slots_of (captured s.entries (members cs) a) in
+        let own : inner.owner ≡ owner.OfTask = items_owner (members cs) s (in_task s (captured_in s.owner slots)) 0 in
         let e : captures (x ++ y) ≡ slots ∷ [] =
-        captures_both x y ∙ ap (λ cs. captures x ++ cs) (none_stmt a inner (λ e. let z : owner.OfTask ≡ owner.OfMain = sym own ∙ e in absurd (cc))) ∙ ap (λ cs. cs ++ []) (captures_both (parts_notes s [] (parts cs)) note ∙ ap (λ cs. cs ++ captures note) (none_parts (parts cs) s []) ∙ ap (λ o. main_task o slots ++ []) h.owner) in
+        captures_both x y ∙ ap (λ cs. captures x ++ cs) (none_stmt a inner (λ e. let z : owner.OfTask ≡ owner.OfMain = sym own ∙ e in absurd (cc))) ∙ ap (λ cs. cs ++ []) (captures_both (members_notes s [] (members cs)) note ∙ ap (λ cs. cs ++ captures note) (none_parts (members cs) s []) ∙ ap (λ o. main_task o slots ++ []) h.owner) in
         subst (Match (scoped_task_at s mark cs a ∷ [])) (sym e)
         (record { scope = s; mark = mark; clauses = cs; body = a; is = refl; in_main = h; leveled = is; lawful = lawful-rest x y lawful; tells = tells-rest rs x y tells; captures = refl }, tt)
     match_stmt (IsStmt.tick {m = mark} {t = t} {e = e} _ _) s h lawful tells =

@@ -8,7 +8,7 @@ use Rattle.os_ast.specs.Names.{Scope, lookup, entity_of}
 use Rattle.os_ast.specs.Notes.Clauses.{named_entity, item_entity, in_task, captured_in, in_task_body, item_flag}
 use Rattle.os_ast.specs.Notes.Kinds.{Note, Used, Sized, Declared, Parameter, Global, Left, Returned, Pragma, Task, Listed}
 use Rattle.os_ast.specs.Notes.Statements.{after_stmt, stmt_notes}
-use Rattle.os_ast.specs.ClauseParts.{ClausePart, Item, Private, parts, item_name, is_in, private_ids}
+use Rattle.os_ast.specs.ClauseMembers.{ClauseMember, Item, Private, members, item_name, is_in, private_ids}
 use Rattle.os_ast.specs.Trees as tree
 use Rattle.os_ast.specs.declared.names.Direction.{Direction}
 use Rattle.os_ast.specs.declared.names.Direction.TheVariants as direction
@@ -97,7 +97,7 @@ module _ (h : Home) (site : Site) (kind : h.kind ≡ code_parts.Task site) (tell
   )
 
   -- the items of a task may be named in it
-  items_may : (ps : List ClausePart) (k : ℕ) (es : List Entry) → ((j : ℕ) → slice_get site.items (k + j) ≡ slice_get (site_items tells ps) j) →
+  items_may : (ps : List ClauseMember) (k : ℕ) (es : List Entry) → ((j : ℕ) → slice_get site.items (k + j) ≡ slice_get (site_items tells ps) j) →
       AllMay h owner.OfTask es → AllMay h owner.OfTask (made_items s depth k ps es)
   items_may [] k es rows all = all
   items_may (Private n ∷ ps) k es rows all = items_may ps k es rows all
@@ -137,8 +137,8 @@ known_by_slots t is (n ∷ ns) lawful tells h = (
 module _ (code : Parts) (rs : List Resolved) (ordered : InOrder rs) (file_es : List Entry) (t : MeaningTask) (slots : List ℕ) (there : TaskAt rs file_es t slots) (all_slots : List (List ℕ)) (number before : ℕ)
     (may : AllFileMay code before file_es) (has : HasTask code (told_at rs) all_slots number (strip (scoped_task_at there.scope there.mark there.clauses there.body))) (behind : before ≤ has.site.unit)
     (same_slots : has.site.captured ≡ slots) (kind : kind_at code has.site.unit ≡ code_parts.Task has.site) where
-  abbrev ps : List ClausePart
-  ps = parts there.clauses
+  abbrev ps : List ClauseMember
+  ps = members there.clauses
 
   abbrev cs : List Scalar
   cs = captured there.scope.entries ps there.body

@@ -1,10 +1,10 @@
 -- What stands in a body stands in its scopes.
 use Rattle.std.proofs.Common.{◌≡◌, ℕ, ◌&&◌, Bool, true, false, not, if◌then◌else◌, List, [], ◌∷◌, ◌++◌, Option, Some, None}
 use Rattle.os_ast.specs.Names.{Scope}
-use Rattle.os_ast.specs.Notes.Clauses.{window_notes, parts_notes}
+use Rattle.os_ast.specs.Notes.Clauses.{window_notes, members_notes}
 use Rattle.os_ast.specs.Notes.Declarators.{is_window, size_notes, sized_notes}
 use Rattle.os_ast.specs.Notes.Expressions.{expr_notes, place_notes, args_notes, links_notes, value_notes, index_notes, change_notes, step_notes}
-use Rattle.os_ast.specs.ClauseParts.{ClausePart, Item, Private, part_name}
+use Rattle.os_ast.specs.ClauseMembers.{ClauseMember, Item, Private, member_name}
 use Rattle.os_ast.specs.Trees as tree
 use Rattle.os_ast.specs.declared.names.Owner.TheVariants as owner
 use Rattle.os_ast.specs.declared.names.Role.{Role}
@@ -81,12 +81,12 @@ module _ (t : Text) (s : Scope) (is : In t s) where
     window_scoped before stream None = (tt, tt)
     window_scoped before stream (Some j) = (tt, ((is, main), index_scoped j.burst))
 
-    pub parts_scoped : (ps : List ClausePart) (before : List ℕ) → AllScoped t (parts_notes s before ps)
+    pub parts_scoped : (ps : List ClauseMember) (before : List ℕ) → AllScoped t (members_notes s before ps)
     parts_scoped [] before = tt
-    parts_scoped (Private n ∷ ps) before = (tt, ((is, tt), parts_scoped ps ((part_name (Private n)).id ∷ before)))
+    parts_scoped (Private n ∷ ps) before = (tt, ((is, tt), parts_scoped ps ((member_name (Private n)).id ∷ before)))
     parts_scoped (Item d i ∷ ps) before =
         let stream = place_notes s (role.Flow d) i.stream in
         let window = window_notes s before i.stream i.window in
-        scoped_both t (stream ++ window) (parts_notes s ((part_name (Item d i)).id ∷ before) ps)
+        scoped_both t (stream ++ window) (members_notes s ((member_name (Item d i)).id ∷ before) ps)
         (scoped_both t stream window (place_scoped i.stream (role.Flow d) main main) (window_scoped before i.stream i.window))
-        (parts_scoped ps ((part_name (Item d i)).id ∷ before))
+        (parts_scoped ps ((member_name (Item d i)).id ∷ before))

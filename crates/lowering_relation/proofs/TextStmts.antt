@@ -7,12 +7,12 @@ use Rattle.os_ast.specs.FreeNames.{task_names}
 use Rattle.os_ast.specs.Leveled.{IsStmt, AreStmts}
 use Rattle.os_ast.specs.Limits.{is_size, size_limit}
 use Rattle.os_ast.specs.Names.{Scope, lookup, entity_of, enter, in_loop, typed}
-use Rattle.os_ast.specs.Notes.Clauses.{in_task_body, parts_notes, clauses_notes}
+use Rattle.os_ast.specs.Notes.Clauses.{in_task_body, members_notes, clauses_notes}
 use Rattle.os_ast.specs.Notes.Declarators.{scalar_entity, sized_form, form_with, form_entity, size_of, size_told, limited, taken, after_declarator, after_declarators, declarator_notes, declarators_notes, sized_notes, after_start, start_notes}
 use Rattle.os_ast.specs.Notes.Expressions.{count_args, expr_notes, place_notes, args_notes, value_notes, change_notes, step_notes}
 use Rattle.os_ast.specs.Notes.Kinds.{Note, Used, Declared, Pragma, Task}
 use Rattle.os_ast.specs.Notes.Statements.{after_stmt, after_stmts, stmt_notes, stmts_notes}
-use Rattle.os_ast.specs.ClauseParts.{parts, count_items}
+use Rattle.os_ast.specs.ClauseMembers.{members, count_items}
 use Rattle.os_ast.specs.Rules.{is_outermost, is_main_body, has_no_size, has_too_many}
 use Rattle.os_ast.specs.Trees as tree
 use Rattle.os_ast.specs.declared.names.Direction.TheVariants as direction
@@ -238,12 +238,12 @@ module _ (t : Text) where
     stmt_fits IsStmt.continue s is room known = (tt, tt)
     stmt_fits (IsStmt.return {e = e} _) s is room known = (tt, all_fit t (expr_notes s e) (expr_scoped t s is e) known.1)
     stmt_fits (IsStmt.task {m = m} {cs = cs} {s = a} _ _) s is room known =
-        let ps = parts cs in
+        let ps = members cs in
         let note = Task s m (count_items ps) (captured s.entries ps a) ∷ [] in
         let known_own = known_first t (clauses_notes s m ps a) (stmt_notes (in_task_body s ps a) a) known in
-        let lawful = (known_rest t (parts_notes s [] ps) note known_own).0.0 in
+        let lawful = (known_rest t (members_notes s [] ps) note known_own).0.0 in
         let main = sym is.owner ∙ in_main_body s.owner lawful.1.1.1.1.1.1.1.0 in
-        all_fit t (clauses_notes s m ps a) (scoped_both t (parts_notes s [] ps) note (parts_scoped t s is main ps []) ((is, caught_below s is main (captured s.entries ps a) (captured_scalars s.entries (task_names ps a))), tt)) known_own
+        all_fit t (clauses_notes s m ps a) (scoped_both t (members_notes s [] ps) note (parts_scoped t s is main ps []) ((is, caught_below s is main (captured s.entries ps a) (captured_scalars s.entries (task_names ps a))), tt)) known_own
     stmt_fits (IsStmt.tick {m = m} {t = p} {e = e} _ _) s is room known =
         let main = sym is.owner ∙ in_main_body s.owner known.0.0.1.1.1.1.1.1.1.0 in
         let x = place_notes s (role.Flow direction.Reads) p in

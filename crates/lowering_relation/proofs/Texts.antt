@@ -9,7 +9,7 @@ use Rattle.os_ast.specs.Meanings.{what_declared, meaning_in, place_in}
 use Rattle.os_ast.specs.Names.{Scope, lookup, entity_of, main_id, flag_of}
 use Rattle.os_ast.specs.Notes.Declarators.{declared_entity, form_with, form_entity, scalar_entity, sized_form, taken, after_declarator, size_of}
 use Rattle.os_ast.specs.Notes.Kinds.{Note, Used, Sized, Declared, Parameter, Global, Left, Returned, Pragma, Task, Listed}
-use Rattle.os_ast.specs.ClauseParts.{is_in}
+use Rattle.os_ast.specs.ClauseMembers.{is_in}
 use Rattle.os_ast.specs.Rules.{UseRule, violates, if_declared, is_wrong_kind, has_other_count, is_changed, is_main_body, is_misplaced_window, is_a_window, is_fixed}
 use Rattle.os_ast.specs.Trees as tree
 use Rattle.os_ast.specs.Violations.{resolutions_of}

@@ -185,7 +185,7 @@ module _ (p : tree.ProgramTree) (code : Parts) (st : Standing p code) where
     caught : IsCaught home site.captured
     task : TaskTree
     fits : TaskFits home task
-    items : site.items ≡ site_items (told_at (names p)) task.parts
+    items : site.items ≡ site_items (told_at (names p)) task.members
 
   site_of : (number : ℕ) (site : Site) → site_at code number ≡ Some site → SiteOf number site
   site_of number site is = record {
@@ -225,7 +225,7 @@ module _ (p : tree.ProgramTree) (code : Parts) (st : Standing p code) where
   -- what holds of all items
   all_items : (P : SiteItem → Type 0) (number : ℕ) (site : Site) → SiteOf number site → ((item : SiteItem) → ItemFits home item → P item) → All P site.items
   all_items P number site s gives =
-      subst (All P) (sym s.items) (λ k d lt. gives (slice_index_or (site_items (told_at (names p)) s.task.parts) k d) (s.fits.items k d lt))
+      subst (All P) (sym s.items) (λ k d lt. gives (slice_index_or (site_items (told_at (names p)) s.task.members) k d) (s.fits.items k d lt))
 
   pub sites : HasSites code
   sites = record {
@@ -264,4 +264,4 @@ module _ (p : tree.ProgramTree) (code : Parts) (st : Standing p code) where
           ap (λ (x : CodeUnit). x.args) (sym same) ∙ s.place.has.args ∙ ap (λ (x : Site). length x.captured) s.same
 
       few_items : (number : ℕ) (site : Site) → SiteOf number site → length site.items ≤ 8
-      few_items number site s = omega (arith, ap (λ xs. length xs) s.items, items_length (told_at (names p)) s.task.parts, s.fits.few)
+      few_items number site s = omega (arith, ap (λ xs. length xs) s.items, items_length (told_at (names p)) s.task.members, s.fits.few)

@@ -1,7 +1,7 @@
 -- Which instructions stand for a change.
 use Rattle.std.specs.Prelude.{◌≡◌, ℕ, ◌+◌, ◌&&◌, Bool, true, false, List, [], ◌∷◌, ◌++◌, Some, pos}
 use Rattle.cddf_meaning.specs.Operators.{step_operator}
-use Rattle.os_ast.specs.ClauseParts.{target_name}
+use Rattle.os_ast.specs.ClauseMembers.{target_name}
 use Rattle.os_ast.specs.Trees as tree
 use Rattle.os_ast.specs.declared.expr.Binary.{Binary}
 use Rattle.os_ast.specs.declared.expr.Binary.TheVariants as binary

@@ -80,7 +80,7 @@ pub record HasTask (code : Parts) (tells : ℕ → Resolved) (captured : List (L
   pub is_unit : unit_at code site.unit ≡ Some unit
   pub line : site.line ≡ t.mark.line
   pub captures : slice_get captured number ≡ Some site.captured
-  pub items : site.items ≡ site_items tells t.parts
+  pub items : site.items ≡ site_items tells t.members
   pub body : HasStmt code (in_main tells []) t.body end end end unit.start end
   pub falls_off : Stands code (End ∷ []) end (end + 1)
   pub fills : unit.start + unit.stack ≡ end + 1

@@ -1,7 +1,7 @@
 -- Which instructions stand for a statement, from one place to another. Behind it the code goes on at `next`, which need
 -- not be the place behind it; `break` goes to `broke`, and `continue` to `continued`.
 use Rattle.std.specs.Prelude.{◌≡◌, ℕ, ◌+◌, List, [], ◌∷◌, Option, Some, None}
-use Rattle.os_ast.specs.ClauseParts.{parts, target_name}
+use Rattle.os_ast.specs.ClauseMembers.{members, target_name}
 use Rattle.os_ast.specs.Trees as tree
 use Rattle.os_ast.specs.declared.names.Resolved.{Resolved}
 use Rattle.os_code.specs.declared.instr.Instr.{Instr}
@@ -68,7 +68,7 @@ abbrev mutual
   HasStmt code b (tree.Continue m) broke continued next from to = Stands code (Jump continued ∷ []) from to
   HasStmt code b (tree.Return m e) broke continued next from to = (end : ℕ) × HasExpr code b.tells e from end × Stands code (b.leaves ∷ []) end to
   HasStmt code b (tree.Task m cs a) broke continued next from to =
-      (number end : ℕ) × (task_index b.tasks m ≡ Some number) × HasItems code b.tells (parts cs) from end
+      (number end : ℕ) × (task_index b.tasks m ≡ Some number) × HasItems code b.tells (members cs) from end
       × Stands code (Spawn number ∷ []) end to × (next ≡ to)
   HasStmt code b (tree.Tick m t arrow e) broke continued next from to =
       (mid end : ℕ) × HasStream code b.tells t from mid × HasExpr code b.tells e mid end

@@ -1,7 +1,7 @@
 -- The tasks of a program by the tree alone, and which instructions stand for the items of a task.
 use Rattle.std.specs.Prelude.{◌≡◌, ℕ, ◌==◌, Bool, true, false, if◌then◌else◌, List, [], ◌∷◌, ◌++◌, position, Option, Some, None, pos}
 use Rattle.os_ast.specs.Names.{main_id}
-use Rattle.os_ast.specs.ClauseParts.{ClausePart, Item, Private, parts, target_name}
+use Rattle.os_ast.specs.ClauseMembers.{ClauseMember, Item, Private, members, target_name}
 use Rattle.os_ast.specs.Trees as tree
 use Rattle.os_ast.specs.declared.expr.Mark.{Mark}
 use Rattle.os_ast.specs.declared.names.Direction.{Direction}
@@ -19,7 +19,7 @@ use Rattle.lowering_relation.specs.Names.{first_of, count_of}
 pub record TaskTree : Type 0 where
   -- its PragmaStart
   pub mark : Mark
-  pub parts : List ClausePart
+  pub members : List ClauseMember
   pub body : tree.StmtTree
 
 -- the tasks of a statement, in the order of the text
@@ -30,7 +30,7 @@ abbrev mutual
   tasks_of (tree.IfElse c a b) = tasks_of a ++ tasks_of b
   tasks_of (tree.While c a) = tasks_of a
   tasks_of (tree.For start test step a) = tasks_of a
-  tasks_of (tree.Task m cs a) = record { mark = m; parts = parts cs; body = a } ∷ []
+  tasks_of (tree.Task m cs a) = record { mark = m; members = members cs; body = a } ∷ []
   tasks_of _ = []
 
   pub all_tasks_of : tree.Stmts → List TaskTree
@@ -70,7 +70,7 @@ HasJoin code tells d None from to = Stands code (Push (pos 1) ∷ []) from to
 HasJoin code tells d (Some j) from to = HasBurst code tells d (tells j.name.mark.place).what j.burst from to
 
 -- the items of a task, one after another: the stream's index, then the burst
-abbrev pub HasItems : Parts → (ℕ → Resolved) → List ClausePart → (from to : ℕ) → Type 0
+abbrev pub HasItems : Parts → (ℕ → Resolved) → List ClauseMember → (from to : ℕ) → Type 0
 HasItems code tells [] from to = from ≡ to
 HasItems code tells (Private n ∷ ps) from to = HasItems code tells ps from to
 HasItems code tells (Item d i ∷ ps) from to =
@@ -97,7 +97,7 @@ site_item tells d i = record {
 }
 
 -- the items of a task's site
-abbrev pub site_items : (ℕ → Resolved) → List ClausePart → List SiteItem
+abbrev pub site_items : (ℕ → Resolved) → List ClauseMember → List SiteItem
 site_items tells [] = []
 site_items tells (Private n ∷ ps) = site_items tells ps
 site_items tells (Item d i ∷ ps) = site_item tells d i ∷ site_items tells ps

@@ -1,7 +1,7 @@
 -- The scalars that a task captures.
 use Rattle.std.specs.Prelude.{ℕ, ◌==◌, if◌then◌else◌, List, [], ◌∷◌, ◌++◌, map, filter}
 use Rattle.os_ast.specs.FreeNames.{task_names}
-use Rattle.os_ast.specs.ClauseParts.{ClausePart, is_in}
+use Rattle.os_ast.specs.ClauseMembers.{ClauseMember, is_in}
 use Rattle.os_ast.specs.Trees as tree
 use Rattle.os_ast.specs.declared.names.Entity.{Entity}
 use Rattle.os_ast.specs.declared.names.Entity.TheVariants as entity
@@ -36,7 +36,7 @@ among ids cs = filter (λ (c : Scalar). is_in c.id ids) cs
 -- What a task with these clauses and this body captures, by what is in scope round it: the scalars of the control
 -- program that `firstprivate` lists, or that the body names and doesn't declare. The sizes of its arrays count for
 -- nothing here.
-abbrev pub captured : List Entry → List ClausePart → tree.StmtTree → List Scalar
+abbrev pub captured : List Entry → List ClauseMember → tree.StmtTree → List Scalar
 captured es ps body = among (task_names ps body) (scalars es)
 
 -- the slots of scalars in the control program

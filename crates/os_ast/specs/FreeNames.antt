@@ -2,7 +2,7 @@
 -- order of the text.
 use Rattle.std.specs.Prelude.{ℕ, if◌then◌else◌, List, [], ◌∷◌, ◌++◌, map, Option}
 use Rattle.std.specs.Option.{option_map_or}
-use Rattle.os_ast.specs.ClauseParts.{ClausePart, Item, Private, parts, item_ids, private_ids, is_in}
+use Rattle.os_ast.specs.ClauseMembers.{ClauseMember, Item, Private, members, item_ids, private_ids, is_in}
 use Rattle.os_ast.specs.Trees as tree
 
 -- Expressions declare nothing.
@@ -46,10 +46,10 @@ abbrev pub join_names : Option tree.JoinTree → List ℕ
 join_names j = option_map_or (λ (j : tree.JoinTree). j.name.id ∷ index_names j.burst) j []
 
 -- Clauses belong to what is round their task.
-abbrev pub parts_names : List ClausePart → List ℕ
-parts_names [] = []
-parts_names (Item d i ∷ ps) = target_names i.stream ++ join_names i.window ++ parts_names ps
-parts_names (Private n ∷ ps) = n.id ∷ parts_names ps
+abbrev pub members_names : List ClauseMember → List ℕ
+members_names [] = []
+members_names (Item d i ∷ ps) = target_names i.stream ++ join_names i.window ++ members_names ps
+members_names (Private n ∷ ps) = n.id ∷ members_names ps
 
 -- names without those that are declared
 abbrev pub without : List ℕ → List ℕ → List ℕ
@@ -94,7 +94,7 @@ abbrev mutual
   stmt_names (tree.While c a) = expr_names c ++ stmt_names a
   stmt_names (tree.For start test step a) = start_names start ++ without (start_ids start) (value_names test ++ step_names step ++ stmt_names a)
   stmt_names (tree.Return m e) = expr_names e
-  stmt_names (tree.Task m cs a) = parts_names (parts cs) ++ without (item_ids (parts cs)) (stmt_names a)
+  stmt_names (tree.Task m cs a) = members_names (members cs) ++ without (item_ids (members cs)) (stmt_names a)
   stmt_names (tree.Tick m t arrow e) = target_names t ++ expr_names e
   stmt_names _ = []
 
@@ -104,5 +104,5 @@ abbrev mutual
 
 -- What a task may take from round it: what `firstprivate` lists, and what the body names and neither an item nor the
 -- body declares.
-abbrev pub task_names : List ClausePart → tree.StmtTree → List ℕ
+abbrev pub task_names : List ClauseMember → tree.StmtTree → List ℕ
 task_names ps body = private_ids ps ++ without (item_ids ps) (stmt_names body)

@@ -1,6 +1,7 @@
 -- What a reader believes: the trees, their spelling, where each part may stand, depth, and what tokens mean; scopes, what
 -- stands where, the rules with their codes and limits, and what names mean.
 pub mod Captured
+pub mod ClauseMembers
 pub mod Codes
 pub mod Depth
 pub mod FreeNames
@@ -13,7 +14,6 @@ pub mod Means
 pub mod Names
 pub mod Notes
 pub mod Operators
-pub mod ClauseParts
 pub mod Rules
 pub mod Spelling
 pub mod Trees

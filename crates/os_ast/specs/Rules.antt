@@ -8,7 +8,7 @@ pub use Rattle.os_ast.specs.Names.{is_main_body}
 use Rattle.os_ast.specs.Names.{Scope, lookup, entity_of, is_declared, main_id}
 use Rattle.os_ast.specs.Notes.Declarators.{form, size_told, after_declarator}
 use Rattle.os_ast.specs.Notes.Kinds.{Note, Used, Declared, Parameter, Global, Left, Returned, Pragma, Task, Listed}
-use Rattle.os_ast.specs.ClauseParts.{is_in}
+use Rattle.os_ast.specs.ClauseMembers.{is_in}
 use Rattle.os_ast.specs.declared.names.Direction.TheVariants as direction
 use Rattle.os_ast.specs.declared.names.Entity.{Entity}
 use Rattle.os_ast.specs.declared.names.Entity.TheVariants as entity

@@ -15,14 +15,14 @@ own_view line = worker_view line.owner
 abbrev pub thief_view : StealLine → Stake
 thief_view line = view line.pass
 
--- the owner's end; how many are left is told where no part of the deque was cut off
+-- the owner's end; how many are left is told where nothing of the deque was cut off
 abbrev pub own_shows : OwnLine → LineState
 own_shows line = record {
   finds = line.finds;
   races = 0;
   bound = (worker_view line.owner).bound;
   handed_out = (worker_view line.owner).taken;
-  left = if (worker_view line.owner).parts == whole then Some (length (worker_view line.owner).pushed - length (worker_view line.owner).taken) else None;
+  left = if (worker_view line.owner).fraction == whole then Some (length (worker_view line.owner).pushed - length (worker_view line.owner).taken) else None;
 }
 
 -- a thief's end

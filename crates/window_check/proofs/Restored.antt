@@ -13,9 +13,9 @@ use Rattle.os_ast.specs.declared.names.Owner.{Owner}
 use Rattle.os_ast.specs.declared.names.Owner.TheVariants as owner
 use Rattle.window_check_names.proofs.Restored.{keeps-then, returned_leave, ended_unit}
 use Rattle.window_check_names.specs.Scopes.{outer_of, around_of, returned, ended}
-use Rattle.window_check_names.specs.Parts.{after_names}
+use Rattle.window_check_names.specs.Members.{after_names}
 use Rattle.window_check.specs.Statements.{in_named_task}
-use Rattle.window_check_names.specs.declared.parts.ItemName.{ItemName}
+use Rattle.window_check_names.specs.declared.members.ItemName.{ItemName}
 
 -- a block
 pub returned_block : (s : Scope) (ss : tree.Stmts) → returned (outer_of s) (after_stmts (enter s) ss) ≡ leave s (after_stmts (enter s) ss)

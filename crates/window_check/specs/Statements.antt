@@ -12,10 +12,10 @@ use Rattle.os_ast.specs.declared.names.Owner.{Owner}
 use Rattle.os_ast.specs.declared.names.Owner.TheVariants as owner
 use Rattle.os_ast.specs.declared.stmt.Stmt.{Stmt}
 use Rattle.window_check_names.specs.Findings.{noted, slots_found}
-use Rattle.window_check_names.specs.Parts.{after_names}
+use Rattle.window_check_names.specs.Members.{after_names}
 use Rattle.window_check_names.specs.declared.found.Found.{Found}
 use Rattle.window_check_names.specs.declared.found.Found.TheVariants.{Listing, Judging, Collecting}
-use Rattle.window_check_names.specs.declared.parts.ItemName.{ItemName}
+use Rattle.window_check_names.specs.declared.members.ItemName.{ItemName}
 
 -- what stands behind `else`: where there is none, it is as if nothing stood there
 abbrev pub else_tree : Option (Box Stmt Global) → tree.StmtTree

@@ -3,7 +3,7 @@
 ghost use Rattle.std.specs.Prelude.{◌≡◌, ◌+◌, ◌≤◌, [], OnOk, IfOk, length, map, option_map};
 ghost use Rattle.os_ast.specs.Names.{after_unit, behind, in_loop};
 ghost use Rattle.os_ast.specs.Notes.Statements.{after_stmt, after_stmts, stmt_notes, stmts_notes};
-ghost use Rattle.os_ast.specs.ClauseParts.{parts};
+ghost use Rattle.os_ast.specs.ClauseMembers.{members};
 ghost use Rattle.os_ast.specs.Rules.{is_main_body, is_task_body, when};
 ghost use Rattle.os_ast.specs.Trees as tree;
 ghost use Rattle.os_ast.specs.Views.{expr_tree, target_tree, change_tree, clause_tree, start_tree, stmt_tree, stmts_tree};
@@ -23,7 +23,7 @@ use std::alloc::Global;
 use window_check_names::broken_rules::when;
 use window_check_names::clauses::clauses;
 use window_check_names::expressions::{called, change, expr, place, step, value};
-use window_check_names::parts::{ItemName, declare_items};
+use window_check_names::members::{ItemName, declare_items};
 use window_check_names::{Captured, Found, Scopes, Slots};
 
 /// A pragma stands outside `main` or inside a task.
@@ -198,7 +198,7 @@ fn task(
     found: &mut Found,
     site: &TaskSite,
 ) -> Result<(), Memory>
-    requires { HasRoom scopes.old (1 + length (parts (map clause_tree site.now.clauses)) + stmt_weight (stmt_tree site.now.body)) }
+    requires { HasRoom scopes.old (1 + length (members (map clause_tree site.now.clauses)) + stmt_weight (stmt_tree site.now.body)) }
     ensures scopes { OnOk result (scopes.new ≡ after_stmt scopes.old (tree.Task site.now.mark (map clause_tree site.now.clauses) (stmt_tree site.now.body))) }
     ensures found { OnOk result (found.new ≡ noted found.old (stmt_notes scopes.old
         (tree.Task site.now.mark (map clause_tree site.now.clauses) (stmt_tree site.now.body)))) }

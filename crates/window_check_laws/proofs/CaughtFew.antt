@@ -3,10 +3,10 @@ use Rattle.std.proofs.Common.{◌≡◌, ◌≢◌, ◌∙◌, ℕ, suc, ◌+◌
 use Rattle.std.proofs.lemmas.Bool.{false≢true}
 use Rattle.os_ast.specs.Captured.{captured, slots_of}
 use Rattle.os_ast.specs.Names.{Scope, entity_of, lookup}
-use Rattle.os_ast.specs.Notes.Clauses.{clauses_notes, in_task_body, part_notes, parts_notes}
+use Rattle.os_ast.specs.Notes.Clauses.{clauses_notes, in_task_body, member_notes, members_notes}
 use Rattle.os_ast.specs.Notes.Kinds.{Declared, Parameter, Global, Left, Listed, Note, Pragma, Returned, Sized, Task, Used}
 use Rattle.os_ast.specs.Notes.Statements.{stmt_notes}
-use Rattle.os_ast.specs.ClauseParts.{Item, ClausePart, Private, count_items, is_in, part_name, private_ids}
+use Rattle.os_ast.specs.ClauseMembers.{Item, ClauseMember, Private, count_items, is_in, member_name, private_ids}
 use Rattle.os_ast.specs.Trees as tree
 use Rattle.os_ast.specs.declared.expr.Mark.{Mark}
 use Rattle.os_ast.specs.declared.names.Entity.{Entity}
@@ -108,14 +108,14 @@ used_few (Pragma s m ∷ ns) = omega (arith, used_few ns)
 used_few (Task s m items caught ∷ ns) = omega (arith, used_few ns)
 used_few (Listed before n ∷ ns) = omega (arith, used_few ns)
 
-privates_few : (s : Scope) (before : List ℕ) (ps : List ClausePart) → length (private_ids ps) ≤ used_in (parts_notes s before ps)
+privates_few : (s : Scope) (before : List ℕ) (ps : List ClauseMember) → length (private_ids ps) ≤ used_in (members_notes s before ps)
 privates_few s before [] = omega arith
 privates_few s before (Item d i ∷ ps) =
-    let again = (part_name (Item d i)).id ∷ before in
-    omega (arith, privates_few s again ps, used_in-append (part_notes s before (Item d i)) (parts_notes s again ps))
+    let again = (member_name (Item d i)).id ∷ before in
+    omega (arith, privates_few s again ps, used_in-append (member_notes s before (Item d i)) (members_notes s again ps))
 privates_few s before (Private n ∷ ps) = omega (arith, privates_few s (n.id ∷ before) ps)
 
-pub caught_few : (s : Scope) (n : ℕ) (m : Mark) (ps : List ClausePart) (a : tree.StmtTree) → HasRoom s n →
+pub caught_few : (s : Scope) (n : ℕ) (m : Mark) (ps : List ClauseMember) (a : tree.StmtTree) → HasRoom s n →
     length (slots_of (captured s.entries ps a)) ≤ used_in (clauses_notes s m ps a) + used_in (stmt_notes (in_task_body s ps a) a)
 caught_few s n m ps a room =
     let caught = slots_of (captured s.entries ps a) in
@@ -130,5 +130,5 @@ caught_few s n m ps a room =
       named_few s.entries (private_ids ps),
       privates_few s [] ps,
       used_few inner,
-      used_in-append (parts_notes s [] ps) note,
+      used_in-append (members_notes s [] ps) note,
     )

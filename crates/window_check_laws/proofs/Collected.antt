@@ -4,7 +4,7 @@ use Rattle.std.proofs.lemmas.Bool.Decides.{nat_tests}
 use Rattle.os_ast.specs.Captured.{Scalar, scalar_of, others, scalars, among, captured, slots_of}
 use Rattle.os_ast.specs.Names.{lookup, entity_of}
 use Rattle.os_ast.specs.FreeNames.{task_names}
-use Rattle.os_ast.specs.ClauseParts.{ClausePart, is_in}
+use Rattle.os_ast.specs.ClauseMembers.{ClauseMember, is_in}
 use Rattle.os_ast.specs.Stacked.{Stacked, main_extent}
 use Rattle.os_ast.specs.Trees.{StmtTree}
 use Rattle.os_ast.specs.declared.names.Entity.{Entity}
@@ -223,7 +223,7 @@ collected es ids top h =
     ∙ sym (among_slots ids x (scalars es)))
 
 -- Captured slots ascend strictly, and are those that the names mean.
-pub captured-ascends : (es : List Entry) (ps : List ClausePart) (a : StmtTree) (top : ℕ) → Stacked main_extent top es → Ascends 0 (slots_of (captured es ps a))
+pub captured-ascends : (es : List Entry) (ps : List ClauseMember) (a : StmtTree) (top : ℕ) → Stacked main_extent top es → Ascends 0 (slots_of (captured es ps a))
 captured-ascends es ps a top h =
     ascends_slots 0 (among (task_names ps a) (scalars es)) top (between_among 0 (task_names ps a) (scalars es) top (between_scalars top es h))
 

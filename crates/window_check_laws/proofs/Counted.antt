@@ -7,7 +7,7 @@ use Rattle.os_ast.specs.Notes.Clauses.{with_items, in_task, in_task_body, captur
 use Rattle.os_ast.specs.Notes.Declarators.{form, taken, after_declarator, after_declarators, after_start}
 use Rattle.os_ast.specs.Notes.Programs.{in_body, in_function, after_param, after_params, after_item, after_items, round_body, owner_of, param_list}
 use Rattle.os_ast.specs.Notes.Statements.{after_stmt, after_stmts}
-use Rattle.os_ast.specs.ClauseParts.{ClausePart, Item, Private, parts, item_name}
+use Rattle.os_ast.specs.ClauseMembers.{ClauseMember, Item, Private, members, item_name}
 use Rattle.os_ast.specs.Trees as tree
 use Rattle.os_ast.specs.declared.names.Form.{Form}
 use Rattle.os_ast.specs.declared.names.Form.TheVariants as form_of
@@ -31,7 +31,7 @@ functions_start s tree.StartTree.Empty = refl
 functions_start s (tree.StartTree.Declare t ds) = functions_declarators (typed t s) ds
 functions_start s (tree.StartTree.Change c) = refl
 
-pub functions_items : (s inner : Scope) (n : ℕ) (ps : List ClausePart) → (with_items s inner n ps).functions ≡ inner.functions
+pub functions_items : (s inner : Scope) (n : ℕ) (ps : List ClauseMember) → (with_items s inner n ps).functions ≡ inner.functions
 functions_items s inner n [] = refl
 functions_items s inner n (Item d i ∷ ps) =
     functions_items s (declare (flagged (item_flag s i) inner) (item_name i.stream i.window).id (item_entity s n d i)) (suc n) ps
@@ -52,7 +52,7 @@ mutual
   functions_stmt s (tree.Continue m) = refl
   functions_stmt s (tree.Return m e) = refl
   functions_stmt s (tree.Task m cs a) =
-      functions_stmt (in_task_body s (parts cs) a) a ∙ functions_items s (in_task s (captured_in s.owner (slots_of (captured s.entries (parts cs) a)))) 0 (parts cs)
+      functions_stmt (in_task_body s (members cs) a) a ∙ functions_items s (in_task s (captured_in s.owner (slots_of (captured s.entries (members cs) a)))) 0 (members cs)
   functions_stmt s (tree.Tick m t arrow e) = refl
   functions_stmt s (tree.Taskwait m) = refl
 

@@ -5,7 +5,7 @@ use Rattle.os_ast.specs.Names.{Scope, enter, in_unit, typed}
 use Rattle.os_ast.specs.Notes.Clauses.{with_items}
 use Rattle.os_ast.specs.Notes.Declarators.{after_declarator, after_declarators, after_start, declarator_notes, declarators_notes, form, start_notes, taken}
 use Rattle.os_ast.specs.Notes.Programs.{after_param, after_params, in_body, in_function, owner_of, param_list, params_notes, round_body}
-use Rattle.os_ast.specs.ClauseParts.{Item, ClausePart, Private}
+use Rattle.os_ast.specs.ClauseMembers.{Item, ClauseMember, Private}
 use Rattle.os_ast.specs.Trees as tree
 use Rattle.os_ast.specs.declared.names.Form.{Form}
 use Rattle.os_ast.specs.declared.names.Form.TheVariants as form_of
@@ -13,7 +13,7 @@ use Rattle.os_ast.specs.declared.names.Owner.{Owner}
 use Rattle.os_ast.specs.declared.names.Owner.TheVariants as owner
 use Rattle.window_check_laws.proofs.NameCounts.{declared_in, declared_in-append}
 
-pub items_arrays : (ps : List ClausePart) (s inner : Scope) (item : ℕ) → (with_items s inner item ps).arrays ≡ inner.arrays
+pub items_arrays : (ps : List ClauseMember) (s inner : Scope) (item : ℕ) → (with_items s inner item ps).arrays ≡ inner.arrays
 items_arrays [] s inner item = refl
 items_arrays (Item d i ∷ ps) s inner item = items_arrays ps s _ (suc item)
 items_arrays (Private n ∷ ps) s inner item = items_arrays ps s inner item

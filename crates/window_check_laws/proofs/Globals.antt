@@ -3,7 +3,7 @@ use Rattle.std.proofs.Common.{◌≡◌, ℕ, ◌==◌, ◌||◌, Bool, true, fa
 use Rattle.std.specs.Prelude.{⊤}
 use Rattle.os_ast.specs.Names.{Scope, lookup, stands_at}
 use Rattle.os_ast.specs.Notes.Programs.{after_item, item_notes, items_notes, file, program_notes}
-use Rattle.os_ast.specs.ClauseParts.{is_in}
+use Rattle.os_ast.specs.ClauseMembers.{is_in}
 use Rattle.os_ast.specs.Trees as tree
 use Rattle.os_ast.specs.declared.names.Entry.{Entry}
 use Rattle.window_check_laws.proofs.Told.{lawful-rest}

@@ -13,7 +13,7 @@ use Rattle.os_ast.specs.Notes.Clauses.{with_items, in_task, in_task_body, captur
 use Rattle.os_ast.specs.Notes.Declarators.{form, form_with, sized_form, size_value, limited, taken, declared_entity, after_declarator, after_declarators, after_start}
 use Rattle.os_ast.specs.Notes.Programs.{in_body, in_function, after_param, after_params, after_item, after_items, after_function, round_body, owner_of, param_list}
 use Rattle.os_ast.specs.Notes.Statements.{after_stmt, after_stmts}
-use Rattle.os_ast.specs.ClauseParts.{ClausePart, Item, Private, parts, item_name, is_in}
+use Rattle.os_ast.specs.ClauseMembers.{ClauseMember, Item, Private, members, item_name, is_in}
 use Rattle.os_ast.specs.Stacked.{Stacked, main_extent}
 use Rattle.os_ast.specs.Trees as tree
 use Rattle.os_ast.specs.declared.names.Direction.{Direction}
@@ -259,7 +259,7 @@ among_few ids (c ∷ cs) = chosen (is_in c.id ids) (among_few ids cs)
     chosen true h = omega (arith, h)
     chosen false h = omega (arith, h)
 
-pub captured_few : (o : Owner) (es : List Entry) (ps : List ClausePart) (a : tree.StmtTree) → length (captured_in o (slots_of (captured es ps a))) ≤ length es
+pub captured_few : (o : Owner) (es : List Entry) (ps : List ClauseMember) (a : tree.StmtTree) → length (captured_in o (slots_of (captured es ps a))) ≤ length es
 captured_few owner.OfMain es ps a =
     omega (arith, length-map (among (task_names ps a) (scalars es)) (λ (c : Scalar). c.slot), among_few (task_names ps a) (scalars es), scalars_few es)
 captured_few owner.OfFunction es ps a = omega arith
@@ -308,7 +308,7 @@ named_apart i d (Some j) (Some (entity.View n k)) = refl
 pub item_apart : (s : Scope) (i : ℕ) (d : Direction) (it : tree.ClauseItemTree) → main_extent (item_entity s i d it) ≡ None
 item_apart s i d it = named_apart i d it.window (entity_of (lookup s.entries (item_name it.stream it.window).id))
 
-pub room_items : (s inner : Scope) (i : ℕ) (ps : List ClausePart) (n : ℕ) → HasRoom inner (length ps + n) → HasRoom (with_items s inner i ps) n
+pub room_items : (s inner : Scope) (i : ℕ) (ps : List ClauseMember) (n : ℕ) → HasRoom inner (length ps + n) → HasRoom (with_items s inner i ps) n
 room_items s inner i [] n h = room_less inner _ n h (omega arith)
 room_items s inner i (Item d it ∷ ps) n h =
     let flag = item_flag s it in
@@ -319,7 +319,7 @@ room_items s inner i (Item d it ∷ ps) n h =
 room_items s inner i (Private p ∷ ps) n h =
     room_items s inner i ps n (room_less inner (length (Private p ∷ ps) + n) (length ps + n) h (omega arith))
 
-pub room_in_task_body : (s : Scope) (ps : List ClausePart) (a : tree.StmtTree) (n : ℕ) → HasRoom s (1 + (length ps + n)) → HasRoom (in_task_body s ps a) n
+pub room_in_task_body : (s : Scope) (ps : List ClauseMember) (a : tree.StmtTree) (n : ℕ) → HasRoom s (1 + (length ps + n)) → HasRoom (in_task_body s ps a) n
 room_in_task_body s ps a n h =
     let slots = captured_in s.owner (slots_of (captured s.entries ps a)) in
     room_items s (in_task s slots) 0 ps n (room_in_task s slots (length ps + n) (captured_few s.owner s.entries ps a) h)
@@ -354,10 +354,10 @@ mutual
   room_stmt s (tree.Continue m) n h = room_less s _ n h (omega arith)
   room_stmt s (tree.Return m e) n h = room_less s _ n h (omega arith)
   room_stmt s (tree.Task m cs a) n h =
-      let inner = in_task_body s (parts cs) a in
+      let inner = in_task_body s (members cs) a in
       room_after_unit s (after_stmt inner a) n (room_less s _ n h (omega arith))
       (room_stmt inner a n
-      (room_in_task_body s (parts cs) a (stmt_weight a + n) (room_less s _ (1 + (length (parts cs) + (stmt_weight a + n))) h (omega arith))))
+      (room_in_task_body s (members cs) a (stmt_weight a + n) (room_less s _ (1 + (length (members cs) + (stmt_weight a + n))) h (omega arith))))
   room_stmt s (tree.Tick m t arrow e) n h = room_less s _ n h (omega arith)
   room_stmt s (tree.Taskwait m) n h = room_less s _ n h (omega arith)
 

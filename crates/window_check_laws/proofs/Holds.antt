@@ -11,7 +11,7 @@ use Rattle.os_ast.specs.Notes.Clauses.{with_items, in_task, in_task_body, captur
 use Rattle.os_ast.specs.Notes.Declarators.{size_of, sized_form, form, form_with, taken, form_entity, declared_entity, scalar_entity, after_declarator, after_declarators, after_start}
 use Rattle.os_ast.specs.Notes.Programs.{after_param, after_params, round_body}
 use Rattle.os_ast.specs.Notes.Statements.{after_stmt}
-use Rattle.os_ast.specs.ClauseParts.{ClausePart, Item, Private, item_name}
+use Rattle.os_ast.specs.ClauseMembers.{ClauseMember, Item, Private, item_name}
 use Rattle.os_ast.specs.Stacked.{Stacked, Extent, main_extent, unit_extent, begins, ends}
 use Rattle.os_ast.specs.Trees as tree
 use Rattle.os_ast.specs.Violations.{streams}
@@ -221,7 +221,7 @@ pub stacked-free : (top id depth : ℕ) (e : Entity) (u : Bool) (es : List Entry
 stacked-free top id depth e u es none h =
     subst (λ (x : Option Extent). (ends x top ≤ top) × Stacked unit_extent (begins x top) es) (sym none) (omega arith, h)
 
-holds-items : (p : tree.ProgramTree) (s inner : Scope) (n : ℕ) (ps : List ClausePart) → inner.owner ≡ owner.OfTask → Holds p inner → Holds p (with_items s inner n ps)
+holds-items : (p : tree.ProgramTree) (s inner : Scope) (n : ℕ) (ps : List ClauseMember) → inner.owner ≡ owner.OfTask → Holds p inner → Holds p (with_items s inner n ps)
 holds-items p s inner n [] own h = h
 holds-items p s inner n (Private m ∷ ps) own h = holds-items p s inner n ps own h
 holds-items p s inner n (Item d i ∷ ps) own h =
@@ -235,7 +235,7 @@ holds-items p s inner n (Item d i ∷ ps) own h =
     (stacked-free inner.slots id inner.depth e (item_flag s i) inner.entries free.none (subst (λ (o : Owner). Stacked (extent_in o) inner.slots inner.entries) own h.stacked)))
     (λ is. free.none))
 
-pub holds-task : (p : tree.ProgramTree) (s : Scope) (ps : List ClausePart) (a : tree.StmtTree) → s.owner ≡ owner.OfMain → Holds p s → Holds p (in_task_body s ps a)
+pub holds-task : (p : tree.ProgramTree) (s : Scope) (ps : List ClauseMember) (a : tree.StmtTree) → s.owner ≡ owner.OfMain → Holds p s → Holds p (in_task_body s ps a)
 holds-task p s ps a main h =
     let slots = captured_in s.owner (slots_of (captured s.entries ps a)) in
     holds-items p s (in_task s slots) 0 ps refl (record {

@@ -7,13 +7,13 @@ use Rattle.os_ast.specs.Captured.{captured, slots_of}
 use Rattle.os_ast.specs.Leveled.{AreAll, cons, IsItem, IsStmt, AreStmts, IsLeveled}
 use Rattle.os_ast.specs.Limits.{is_size}
 use Rattle.os_ast.specs.Names.{Scope, lookup, entity_of, declare, enter, in_loop, constant_value, typed}
-use Rattle.os_ast.specs.Notes.Clauses.{in_task, in_task_body, captured_in, window_notes, part_notes, parts_notes, clauses_notes}
+use Rattle.os_ast.specs.Notes.Clauses.{in_task, in_task_body, captured_in, window_notes, member_notes, members_notes, clauses_notes}
 use Rattle.os_ast.specs.Notes.Declarators.{limited, constant_of, size_value, size_told, size_of, form, form_with, after_declarator, after_declarators, is_window, declarator_notes, declarators_notes, size_notes, sized_notes, after_start, start_notes}
 use Rattle.os_ast.specs.Notes.Expressions.{expr_notes, place_notes, args_notes, links_notes, value_notes, index_notes, change_notes, step_notes}
 use Rattle.os_ast.specs.Notes.Kinds.{Note, Used, Sized, Declared, Parameter, Global, Left, Returned, Pragma, Task, Listed}
 use Rattle.os_ast.specs.Notes.Programs.{in_body, in_function, after_param, after_item, after_items, params_notes, item_notes, items_notes, owner_of, param_list, file, program_notes}
 use Rattle.os_ast.specs.Notes.Statements.{after_stmt, after_stmts, stmt_notes, stmts_notes}
-use Rattle.os_ast.specs.ClauseParts.{ClausePart, Item, Private, parts, part_name, count_items, is_in}
+use Rattle.os_ast.specs.ClauseMembers.{ClauseMember, Item, Private, members, member_name, count_items, is_in}
 use Rattle.os_ast.specs.Rules.{has_no_size, has_too_many, is_main_body}
 use Rattle.os_ast.specs.Stacked.{Stacked}
 use Rattle.os_ast.specs.Trees as tree
@@ -137,17 +137,17 @@ module _ (p : tree.ProgramTree) (s : Scope) (ok : IsSoundScope p s) where
   stand-window before stream None = (tt, tt)
   stand-window before stream (Some j) = (tt, (ok, stand-index j.burst))
 
-  stand-part : (before : List ℕ) (part : ClausePart) → AllStand p (part_notes s before part)
-  stand-part before (Item d i) =
+  stand-member : (before : List ℕ) (part : ClauseMember) → AllStand p (member_notes s before part)
+  stand-member before (Item d i) =
       all-stand p (place_notes s (role.Flow d) i.stream) (window_notes s before i.stream i.window) (stand-place (role.Flow d) i.stream)
       (stand-window before i.stream i.window)
-  stand-part before (Private n) = (tt, (ok, tt))
+  stand-member before (Private n) = (tt, (ok, tt))
 
-  stand-parts : (before : List ℕ) (ps : List ClausePart) → AllStand p (parts_notes s before ps)
-  stand-parts before [] = tt
-  stand-parts before (part ∷ ps) =
-      let again = (part_name part).id ∷ before in
-      all-stand p (part_notes s before part) (parts_notes s again ps) (stand-part before part) (stand-parts again ps)
+  stand-members : (before : List ℕ) (ps : List ClauseMember) → AllStand p (members_notes s before ps)
+  stand-members before [] = tt
+  stand-members before (part ∷ ps) =
+      let again = (member_name part).id ∷ before in
+      all-stand p (member_notes s before part) (members_notes s again ps) (stand-member before part) (stand-members again ps)
 
 -- the size of a local array or of an array of streams
 or-first : (a b : Bool) → (a || b) ≡ false → a ≡ false
@@ -305,16 +305,16 @@ module _ (p : tree.ProgramTree) (top : ℕ) (few : 2 + top ≤ streams p) where
     stand-stmt IsStmt.continue s h below k = (sound-below s below h, tt)
     stand-stmt (IsStmt.return {e = e} _) s h below k = let ok = sound-below s below h in (ok, stand-expr p s ok e)
     stand-stmt (IsStmt.task {m = m} {cs = cs} {s = a} _ is) s h below k =
-        let ps = parts cs in
+        let ps = members cs in
         let inner = in_task_body s ps a in
         let round = in_task s (captured_in s.owner (slots_of (captured s.entries ps a))) in
         let note = Task s m (count_items ps) (captured s.entries ps a) ∷ [] in
-        let front = parts_notes s [] ps in
+        let front = members_notes s [] ps in
         let start = lawful-rest front note (lawful-first (clauses_notes s m ps a) (stmt_notes inner a) k) in
         let main : s.owner ≡ owner.OfMain = in-main s.owner (not-false (is_main_body s.owner) start.0.1.1.1.1.1.1.1.0) in
         let ok = sound-below s (omega (arith, below, grow_stmt inner a, streams_items s round 0 ps)) h in
         all-stand p (clauses_notes s m ps a) (stmt_notes inner a)
-        (all-stand p front note (stand-parts p s ok [] ps) (ok, tt))
+        (all-stand p front note (stand-members p s ok [] ps) (ok, tt))
         (stand-stmt is inner (holds-task p s ps a main h) below (lawful-rest (clauses_notes s m ps a) (stmt_notes inner a) k))
     stand-stmt (IsStmt.tick {m = m} {t = t} {e = e} _ _) s h below k =
         let ok = sound-below s below h in (

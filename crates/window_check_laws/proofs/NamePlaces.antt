@@ -8,13 +8,13 @@ use Rattle.os_ast.specs.declared.program.Param.{Param}
 use Rattle.os_ast.specs.Captured.{captured}
 use Rattle.os_ast.specs.Limits.{is_size}
 use Rattle.os_ast.specs.Names.{Scope, lookup, entity_of, enter, in_loop, typed, flag_of}
-use Rattle.os_ast.specs.Notes.Clauses.{part_notes, parts_notes, window_notes, shape_of, clauses_notes, in_task_body}
+use Rattle.os_ast.specs.Notes.Clauses.{member_notes, members_notes, window_notes, shape_of, clauses_notes, in_task_body}
 use Rattle.os_ast.specs.Notes.Declarators.{form, form_with, sized_form, size_of, size_told, size_value, constant_of, declarator_notes, declarators_notes, after_declarator, after_start, start_notes, sized_notes, size_notes, is_window}
 use Rattle.os_ast.specs.Notes.Expressions.{expr_notes, place_notes, args_notes, links_notes, value_notes, index_notes, change_notes, step_notes, count_args}
 use Rattle.os_ast.specs.Notes.Kinds.{Note, Used, Task}
 use Rattle.os_ast.specs.Notes.Programs.{params_notes, after_param, param_list, item_notes, items_notes, after_item, in_function, in_body, program_notes, file}
 use Rattle.os_ast.specs.Notes.Statements.{stmt_notes, stmts_notes, after_stmt}
-use Rattle.os_ast.specs.ClauseParts.{ClausePart, Item, Private, parts, clause_parts, part_name, count_items}
+use Rattle.os_ast.specs.ClauseMembers.{ClauseMember, Item, Private, members, clause_members, member_name, count_items}
 use Rattle.os_ast.specs.Rules.{has_no_size, has_too_many}
 use Rattle.os_ast.specs.Spelling as spelling
 use Rattle.os_ast.specs.Spelling.{Symbol, ◌⨾◌}
@@ -230,43 +230,43 @@ at-window s before arrow t None rest h = refl
 at-window s before arrow t (Some j) rest h =
     used s j.name (usage.Joined (shape_of j.burst)) (index_notes s j.burst) _ h.1.0 (at-index s j.burst rest h.1.1)
 
-at-item : (s : Scope) (before : List ℕ) (d : Direction) (arrow : Punct) (i : tree.ClauseItemTree) (rest : List Symbol) → AreLawful (part_notes s before (Item d i)) →
-    name_places (spelling.clause_item arrow i rest) ≡ told (part_notes s before (Item d i)) ++ name_places rest
+at-item : (s : Scope) (before : List ℕ) (d : Direction) (arrow : Punct) (i : tree.ClauseItemTree) (rest : List Symbol) → AreLawful (member_notes s before (Item d i)) →
+    name_places (spelling.clause_item arrow i rest) ≡ told (member_notes s before (Item d i)) ++ name_places rest
 at-item s before d arrow i rest h =
     let stream = place_notes s (role.Flow d) i.stream in
     let window = window_notes s before i.stream i.window in
     joined _ stream window (at-place s (role.Flow d) i.stream _ (lawful-first stream window h)) (at-window s before arrow i.stream i.window rest (lawful-rest stream window h))
 
-at-items : (s : Scope) (before : List ℕ) (d : Direction) (arrow : Punct) (is : List tree.ClauseItemTree) (rest : List Symbol) → AreLawful (parts_notes s before (map (Item d) is)) →
-    name_places (spelling.each (λ i. spelling.punct puncts.Comma ⨾ spelling.clause_item arrow i) is rest) ≡ told (parts_notes s before (map (Item d) is)) ++ name_places rest
+at-items : (s : Scope) (before : List ℕ) (d : Direction) (arrow : Punct) (is : List tree.ClauseItemTree) (rest : List Symbol) → AreLawful (members_notes s before (map (Item d) is)) →
+    name_places (spelling.each (λ i. spelling.punct puncts.Comma ⨾ spelling.clause_item arrow i) is rest) ≡ told (members_notes s before (map (Item d) is)) ++ name_places rest
 at-items s before d arrow [] rest h = refl
 at-items s before d arrow (i ∷ is) rest h =
-    let here = part_notes s before (Item d i) in
-    let more = parts_notes s ((part_name (Item d i)).id ∷ before) (map (Item d) is) in
-    joined _ here more (at-item s before d arrow i _ (lawful-first here more h)) (at-items s ((part_name (Item d i)).id ∷ before) d arrow is rest (lawful-rest here more h))
+    let here = member_notes s before (Item d i) in
+    let more = members_notes s ((member_name (Item d i)).id ∷ before) (map (Item d) is) in
+    joined _ here more (at-item s before d arrow i _ (lawful-first here more h)) (at-items s ((member_name (Item d i)).id ∷ before) d arrow is rest (lawful-rest here more h))
 
-at-item_list : (s : Scope) (before : List ℕ) (d : Direction) (arrow : Punct) (is : List tree.ClauseItemTree) (rest : List Symbol) → AreLawful (parts_notes s before (map (Item d) is)) →
-    name_places (spelling.listed (spelling.clause_item arrow) is rest) ≡ told (parts_notes s before (map (Item d) is)) ++ name_places rest
+at-item_list : (s : Scope) (before : List ℕ) (d : Direction) (arrow : Punct) (is : List tree.ClauseItemTree) (rest : List Symbol) → AreLawful (members_notes s before (map (Item d) is)) →
+    name_places (spelling.listed (spelling.clause_item arrow) is rest) ≡ told (members_notes s before (map (Item d) is)) ++ name_places rest
 at-item_list s before d arrow [] rest h = refl
 at-item_list s before d arrow (i ∷ is) rest h =
-    let here = part_notes s before (Item d i) in
-    let more = parts_notes s ((part_name (Item d i)).id ∷ before) (map (Item d) is) in
-    joined _ here more (at-item s before d arrow i _ (lawful-first here more h)) (at-items s ((part_name (Item d i)).id ∷ before) d arrow is rest (lawful-rest here more h))
+    let here = member_notes s before (Item d i) in
+    let more = members_notes s ((member_name (Item d i)).id ∷ before) (map (Item d) is) in
+    joined _ here more (at-item s before d arrow i _ (lawful-first here more h)) (at-items s ((member_name (Item d i)).id ∷ before) d arrow is rest (lawful-rest here more h))
 
-at-privates : (s : Scope) (before : List ℕ) (ns : List Name) (rest : List Symbol) → AreLawful (parts_notes s before (map Private ns)) →
-    name_places (spelling.each (λ n. spelling.punct puncts.Comma ⨾ spelling.name n) ns rest) ≡ told (parts_notes s before (map Private ns)) ++ name_places rest
+at-privates : (s : Scope) (before : List ℕ) (ns : List Name) (rest : List Symbol) → AreLawful (members_notes s before (map Private ns)) →
+    name_places (spelling.each (λ n. spelling.punct puncts.Comma ⨾ spelling.name n) ns rest) ≡ told (members_notes s before (map Private ns)) ++ name_places rest
 at-privates s before [] rest h = refl
 at-privates s before (n ∷ ns) rest h =
-    used s n usage.Private (parts_notes s (n.id ∷ before) (map Private ns)) _ h.1.0 (at-privates s (n.id ∷ before) ns rest h.1.1)
+    used s n usage.Private (members_notes s (n.id ∷ before) (map Private ns)) _ h.1.0 (at-privates s (n.id ∷ before) ns rest h.1.1)
 
-at-private_list : (s : Scope) (before : List ℕ) (ns : List Name) (rest : List Symbol) → AreLawful (parts_notes s before (map Private ns)) →
-    name_places (spelling.listed spelling.name ns rest) ≡ told (parts_notes s before (map Private ns)) ++ name_places rest
+at-private_list : (s : Scope) (before : List ℕ) (ns : List Name) (rest : List Symbol) → AreLawful (members_notes s before (map Private ns)) →
+    name_places (spelling.listed spelling.name ns rest) ≡ told (members_notes s before (map Private ns)) ++ name_places rest
 at-private_list s before [] rest h = refl
 at-private_list s before (n ∷ ns) rest h =
-    used s n usage.Private (parts_notes s (n.id ∷ before) (map Private ns)) _ h.1.0 (at-privates s (n.id ∷ before) ns rest h.1.1)
+    used s n usage.Private (members_notes s (n.id ∷ before) (map Private ns)) _ h.1.0 (at-privates s (n.id ∷ before) ns rest h.1.1)
 
-at-kind : (s : Scope) (before : List ℕ) (k : tree.ClauseKindTree) (rest : List Symbol) → AreLawful (parts_notes s before (clause_parts k)) →
-    name_places (spelling.clause_kind k rest) ≡ told (parts_notes s before (clause_parts k)) ++ name_places rest
+at-kind : (s : Scope) (before : List ℕ) (k : tree.ClauseKindTree) (rest : List Symbol) → AreLawful (members_notes s before (clause_members k)) →
+    name_places (spelling.clause_kind k rest) ≡ told (members_notes s before (clause_members k)) ++ name_places rest
 at-kind s before (tree.Input is) rest h = at-item_list s before direction.Reads puncts.ShiftRight is (spelling.punct puncts.CloseParen rest) h
 at-kind s before (tree.Output is) rest h = at-item_list s before direction.Writes puncts.ShiftLeft is (spelling.punct puncts.CloseParen rest) h
 at-kind s before (tree.Firstprivate ns) rest h = at-private_list s before ns (spelling.punct puncts.CloseParen rest) h
@@ -275,27 +275,27 @@ at-comma : (comma : Bool) (ps : List Symbol) → name_places (spelling.comma com
 at-comma false ps = refl
 at-comma true ps = refl
 
-abbrev names_behind : List ℕ → List ClausePart → List ℕ
+abbrev names_behind : List ℕ → List ClauseMember → List ℕ
 names_behind before [] = before
-names_behind before (p ∷ ps) = names_behind ((part_name p).id ∷ before) ps
+names_behind before (p ∷ ps) = names_behind ((member_name p).id ∷ before) ps
 
-parts-append : (s : Scope) (before : List ℕ) (ps qs : List ClausePart) → parts_notes s before (ps ++ qs) ≡ parts_notes s before ps ++ parts_notes s (names_behind before ps) qs
-parts-append s before [] qs = refl
-parts-append s before (p ∷ ps) qs =
-    ap (λ ns. part_notes s before p ++ ns) (parts-append s ((part_name p).id ∷ before) ps qs)
-    ∙ sym (append_assoc (part_notes s before p) (parts_notes s ((part_name p).id ∷ before) ps) (parts_notes s (names_behind before (p ∷ ps)) qs))
+members-append : (s : Scope) (before : List ℕ) (ps qs : List ClauseMember) → members_notes s before (ps ++ qs) ≡ members_notes s before ps ++ members_notes s (names_behind before ps) qs
+members-append s before [] qs = refl
+members-append s before (p ∷ ps) qs =
+    ap (λ ns. member_notes s before p ++ ns) (members-append s ((member_name p).id ∷ before) ps qs)
+    ∙ sym (append_assoc (member_notes s before p) (members_notes s ((member_name p).id ∷ before) ps) (members_notes s (names_behind before (p ∷ ps)) qs))
 
-at-clauses : (s : Scope) (before : List ℕ) (cs : List tree.ClauseTree) (rest : List Symbol) → AreLawful (parts_notes s before (parts cs)) →
-    name_places (spelling.each spelling.clause cs rest) ≡ told (parts_notes s before (parts cs)) ++ name_places rest
+at-clauses : (s : Scope) (before : List ℕ) (cs : List tree.ClauseTree) (rest : List Symbol) → AreLawful (members_notes s before (members cs)) →
+    name_places (spelling.each spelling.clause cs rest) ≡ told (members_notes s before (members cs)) ++ name_places rest
 at-clauses s before [] rest h = refl
 at-clauses s before (c ∷ cs) rest h =
     let more = spelling.each spelling.clause cs rest in
-    let here = parts_notes s before (clause_parts c.kind) in
-    let later = parts_notes s (names_behind before (clause_parts c.kind)) (parts cs) in
-    let split = parts-append s before (clause_parts c.kind) (parts cs) in
+    let here = members_notes s before (clause_members c.kind) in
+    let later = members_notes s (names_behind before (clause_members c.kind)) (members cs) in
+    let split = members-append s before (clause_members c.kind) (members cs) in
     let lawful : AreLawful (here ++ later) = subst AreLawful split h in
     at-comma c.comma (spelling.clause_kind c.kind more)
-    ∙ joined _ here later (at-kind s before c.kind more (lawful-first here later lawful)) (at-clauses s (names_behind before (clause_parts c.kind)) cs rest (lawful-rest here later lawful))
+    ∙ joined _ here later (at-kind s before c.kind more (lawful-first here later lawful)) (at-clauses s (names_behind before (clause_members c.kind)) cs rest (lawful-rest here later lawful))
     ∙ ap (λ (ns : List Note). told ns ++ name_places rest) (sym split)
 
 mutual
@@ -342,9 +342,9 @@ mutual
   at-stmt s (tree.Continue m) rest h = refl
   at-stmt s (tree.Return m e) rest h = at-expr s e (spelling.punct puncts.Semicolon rest) h.1
   at-stmt s (tree.Task m cs a) rest h =
-      let ps = parts cs in
+      let ps = members cs in
       let inner = in_task_body s ps a in
-      let clauses = parts_notes s [] ps in
+      let clauses = members_notes s [] ps in
       let start = Task s m (count_items ps) (captured s.entries ps a) ∷ [] in
       let front = lawful-first (clauses_notes s m ps a) (stmt_notes inner a) h in
       joined _ (clauses_notes s m ps a) (stmt_notes inner a)

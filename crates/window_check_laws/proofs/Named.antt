@@ -2,14 +2,14 @@
 use Rattle.std.proofs.Common.{◌≡◌, ℕ, suc, ◌==◌, ◌||◌, ◌&&◌, Bool, true, false, not, if◌then◌else◌, List, [], ◌∷◌, ◌++◌, Option, Some, None, refl, ap, sym, subst, ◌∙◌, append_assoc}
 use Rattle.std.proofs.lemmas.List.{append-nil}
 use Rattle.os_ast.specs.Captured.{captured, slots_of}
-use Rattle.os_ast.specs.FreeNames.{expr_names, target_names, args_names, links_names, value_names, index_names, change_names, step_names, join_names, parts_names, without, declared_ids, declarators_names, start_ids, start_names, stmt_ids, stmt_names, stmts_names, task_names}
+use Rattle.os_ast.specs.FreeNames.{expr_names, target_names, args_names, links_names, value_names, index_names, change_names, step_names, join_names, members_names, without, declared_ids, declarators_names, start_ids, start_names, stmt_ids, stmt_names, stmts_names, task_names}
 use Rattle.os_ast.specs.Names.{Scope, lookup, entity_of, declare, enter, in_loop, typed, flagged}
-use Rattle.os_ast.specs.Notes.Clauses.{window_notes, part_notes, parts_notes, named_entity, item_entity, with_items, in_task, in_task_body, captured_in, clauses_notes, item_flag}
+use Rattle.os_ast.specs.Notes.Clauses.{window_notes, member_notes, members_notes, named_entity, item_entity, with_items, in_task, in_task_body, captured_in, clauses_notes, item_flag}
 use Rattle.os_ast.specs.Notes.Declarators.{form, form_entity, declared_entity, taken, scalar_entity, is_window, size_notes, sized_notes, declarators_notes, after_declarator, after_declarators, after_start, start_notes}
 use Rattle.os_ast.specs.Notes.Expressions.{expr_notes, place_notes, args_notes, links_notes, value_notes, index_notes, change_notes, step_notes}
 use Rattle.os_ast.specs.Notes.Kinds.{Note}
 use Rattle.os_ast.specs.Notes.Statements.{after_stmt, stmt_notes, stmts_notes}
-use Rattle.os_ast.specs.ClauseParts.{ClausePart, Item, Private, parts, part_name, item_name, item_ids, private_ids, is_in}
+use Rattle.os_ast.specs.ClauseMembers.{ClauseMember, Item, Private, members, member_name, item_name, item_ids, private_ids, is_in}
 use Rattle.os_ast.specs.Trees as tree
 use Rattle.os_ast.specs.declared.names.Direction.{Direction}
 use Rattle.os_ast.specs.declared.names.Entity.{Entity}
@@ -88,15 +88,15 @@ named-window : (s : Scope) (before : List ℕ) (t : tree.TargetTree) (j : Option
 named-window s before t None = refl
 named-window s before t (Some j) = ap (λ zs. control_slots (entity_of (lookup s.entries j.name.id)) ++ zs) (named-index s j.burst)
 
-named-parts : (s : Scope) (before : List ℕ) (ps : List ClausePart) → used_slots (parts_notes s before ps) ≡ slots_named s.entries (parts_names ps)
-named-parts s before [] = refl
-named-parts s before (Item d i ∷ ps) =
-    two s.entries (part_notes s before (Item d i)) (parts_notes s ((part_name (Item d i)).id ∷ before) ps) (target_names i.stream ++ join_names i.window) (parts_names ps)
+named-members : (s : Scope) (before : List ℕ) (ps : List ClauseMember) → used_slots (members_notes s before ps) ≡ slots_named s.entries (members_names ps)
+named-members s before [] = refl
+named-members s before (Item d i ∷ ps) =
+    two s.entries (member_notes s before (Item d i)) (members_notes s ((member_name (Item d i)).id ∷ before) ps) (target_names i.stream ++ join_names i.window) (members_names ps)
     (two s.entries (place_notes s _ i.stream) (window_notes s before i.stream i.window) (target_names i.stream) (join_names i.window)
     (named-place s _ i.stream) (named-window s before i.stream i.window))
-    (named-parts s ((part_name (Item d i)).id ∷ before) ps)
-named-parts s before (Private n ∷ ps) =
-    two s.entries (part_notes s before (Private n)) (parts_notes s (n.id ∷ before) ps) (n.id ∷ []) (parts_names ps) refl (named-parts s (n.id ∷ before) ps)
+    (named-members s ((member_name (Item d i)).id ∷ before) ps)
+named-members s before (Private n ∷ ps) =
+    two s.entries (member_notes s before (Private n)) (members_notes s (n.id ∷ before) ps) (n.id ∷ []) (members_names ps) refl (named-members s (n.id ∷ before) ps)
 
 -- Declarations that hide names: a look-up of another name finds what it found before.
 abbrev Hide : List Entry → List Entry → List ℕ → Type 0
@@ -240,7 +240,7 @@ item_hides i d (Some j) (Some (entity.Streams n k)) = refl
 item_hides i d (Some j) (Some (entity.Element n k)) = refl
 item_hides i d (Some j) (Some (entity.View n k)) = refl
 
-hide_items : (s inner : Scope) (item : ℕ) (ps : List ClausePart) → Hide (with_items s inner item ps).entries inner.entries (item_ids ps)
+hide_items : (s inner : Scope) (item : ℕ) (ps : List ClauseMember) → Hide (with_items s inner item ps).entries inner.entries (item_ids ps)
 hide_items s inner item [] = λ id. refl
 hide_items s inner item (Item d i ∷ ps) =
     let name = (item_name i.stream i.window).id in
@@ -304,11 +304,11 @@ mutual
   named-stmt s (tree.Continue m) h = refl
   named-stmt s (tree.Return m e) h = named-expr s e
   named-stmt s (tree.Task m cs a) h =
-      let ps = parts cs in
+      let ps = members cs in
       let slots = captured_in s.owner (slots_of (captured s.entries ps a)) in
       let inner = in_task_body s ps a in
-      two s.entries (clauses_notes s m ps a) (stmt_notes inner a) (parts_names ps) (without (item_ids ps) (stmt_names a))
-      (used_slots-append (parts_notes s [] ps) _ ∙ append-nil (used_slots (parts_notes s [] ps)) ∙ named-parts s [] ps)
+      two s.entries (clauses_notes s m ps a) (stmt_notes inner a) (members_names ps) (without (item_ids ps) (stmt_names a))
+      (used_slots-append (members_notes s [] ps) _ ∙ append-nil (used_slots (members_notes s [] ps)) ∙ named-members s [] ps)
       (named-stmt inner a (owner_items s (in_task s slots) 0 ps)
       ∙ hidden inner.entries s.entries (item_ids ps) (stmt_names a) (hide_items s (in_task s slots) 0 ps))
   named-stmt s (tree.Tick m t arrow e) h = two s.entries (place_notes s _ t) (expr_notes s e) (target_names t) (expr_names e) (named-place s _ t) (named-expr s e)
@@ -322,14 +322,14 @@ mutual
       (named-stmts after rest (owner_stmt s a ∙ h) ∙ hidden after.entries s.entries (stmt_ids a) (stmts_names rest) (hide_stmt s a h))
 
 -- what a task's body uses, by its free names
-pub named-body : (s : Scope) (slots : List ℕ) (ps : List ClausePart) (a : tree.StmtTree) →
+pub named-body : (s : Scope) (slots : List ℕ) (ps : List ClauseMember) (a : tree.StmtTree) →
     used_slots (stmt_notes (with_items s (in_task s slots) 0 ps) a) ≡ slots_named s.entries (without (item_ids ps) (stmt_names a))
 named-body s slots ps a =
     let inner = with_items s (in_task s slots) 0 ps in
     named-stmt inner a (owner_items s (in_task s slots) 0 ps) ∙ hidden inner.entries s.entries (item_ids ps) (stmt_names a) (hide_items s (in_task s slots) 0 ps)
 
 -- The members of what a task captures are those that its `firstprivate` clauses name and those that its body uses.
-pub captured-members : (s : Scope) (ps : List ClausePart) (a : tree.StmtTree) (x : ℕ) →
+pub captured-members : (s : Scope) (ps : List ClauseMember) (a : tree.StmtTree) (x : ℕ) →
     is_in x (slots_of (captured s.entries ps a))
     ≡ (is_in x (slots_named s.entries (private_ids ps)) || is_in x (used_slots (stmt_notes (in_task_body s ps a) a)))
 captured-members s ps a x =

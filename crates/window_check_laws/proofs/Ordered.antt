@@ -7,14 +7,14 @@ use Rattle.os_ast.specs.declared.program.Param.{Param}
 use Rattle.os_ast.specs.Captured.{captured}
 use Rattle.os_ast.specs.Marks.{HasMark, HasPlaces}
 use Rattle.os_ast.specs.Names.{Scope, entity_of, lookup, enter, in_loop, typed, flag_of}
-use Rattle.os_ast.specs.Notes.Clauses.{part_notes, parts_notes, window_notes, shape_of, in_task_body}
+use Rattle.os_ast.specs.Notes.Clauses.{member_notes, members_notes, window_notes, shape_of, in_task_body}
 use Rattle.os_ast.specs.Notes.Declarators.{declarator_notes, declarators_notes, after_declarator, after_start, start_notes, sized_notes, size_notes, constant_of, is_window}
 use Rattle.os_ast.specs.Notes.Expressions.{expr_notes, place_notes, args_notes, links_notes, value_notes, index_notes, change_notes, step_notes, count_args}
 use Rattle.os_ast.specs.Notes.Kinds.{Note, Used, Sized, Declared, Parameter, Global, Left, Returned, Pragma, Task, Listed}
 use Rattle.os_ast.specs.Notes.Programs.{params_notes, after_param, param_list, item_notes, items_notes, after_item, in_function, in_body, program_notes, file}
 use Rattle.os_ast.specs.Notes.Statements.{stmt_notes, stmts_notes, after_stmt}
 use Rattle.os_ast.specs.Operators.{assign_mark, step_mark}
-use Rattle.os_ast.specs.ClauseParts.{ClausePart, Item, Private, parts, clause_parts, part_name, count_items, target_name}
+use Rattle.os_ast.specs.ClauseMembers.{ClauseMember, Item, Private, members, clause_members, member_name, count_items, target_name}
 use Rattle.os_ast.specs.Spelling as spelling
 use Rattle.os_ast.specs.Spelling.{Symbol, bare, marked, symbols, ◌⨾◌}
 use Rattle.os_ast.specs.Trees as tree
@@ -257,16 +257,16 @@ in-start s tree.StartTree.Empty lo rest h = opened (silent (suc lo) rest h)
 in-start s (tree.StartTree.Declare t ds) lo rest h = in-declare (typed t s) t ds lo rest h
 in-start s (tree.StartTree.Change c) lo rest h = closed (in-change s c lo (spelling.punct puncts.Semicolon rest) h)
 
--- the parts of clauses
-abbrev pub names_after : List ℕ → List ClausePart → List ℕ
+-- the members of clauses
+abbrev pub names_after : List ℕ → List ClauseMember → List ℕ
 names_after before [] = before
-names_after before (p ∷ ps) = names_after ((part_name p).id ∷ before) ps
+names_after before (p ∷ ps) = names_after ((member_name p).id ∷ before) ps
 
-parts_notes-append : (s : Scope) (before : List ℕ) (ps qs : List ClausePart) → parts_notes s before (ps ++ qs) ≡ parts_notes s before ps ++ parts_notes s (names_after before ps) qs
-parts_notes-append s before [] qs = refl
-parts_notes-append s before (p ∷ ps) qs =
-    ap (λ ns. part_notes s before p ++ ns) (parts_notes-append s ((part_name p).id ∷ before) ps qs)
-    ∙ sym (append_assoc (part_notes s before p) (parts_notes s ((part_name p).id ∷ before) ps) (parts_notes s (names_after before (p ∷ ps)) qs))
+members_notes-append : (s : Scope) (before : List ℕ) (ps qs : List ClauseMember) → members_notes s before (ps ++ qs) ≡ members_notes s before ps ++ members_notes s (names_after before ps) qs
+members_notes-append s before [] qs = refl
+members_notes-append s before (p ∷ ps) qs =
+    ap (λ ns. member_notes s before p ++ ns) (members_notes-append s ((member_name p).id ∷ before) ps qs)
+    ∙ sym (append_assoc (member_notes s before p) (members_notes s ((member_name p).id ∷ before) ps) (members_notes s (names_after before (p ∷ ps)) qs))
 
 in-join : (s : Scope) (before : List ℕ) (arrow : Punct) (t : tree.TargetTree) (w : Option tree.JoinTree) (lo : ℕ) (rest : List Symbol) →
     HasFrom lo (spelling.optional (spelling.join arrow) w rest) → Passed lo (window_notes s before t w) rest
@@ -277,30 +277,30 @@ in-join s before arrow t (Some j) lo rest h =
     (with_name (Used s j.name (usage.Joined (shape_of j.burst))) j.name.mark refl h.1.0 (in-index s j.burst (suc (suc lo)) rest h.1.1)))
 
 in-item : (s : Scope) (before : List ℕ) (d : Direction) (arrow : Punct) (i : tree.ClauseItemTree) (lo : ℕ) (rest : List Symbol) →
-    HasFrom lo (spelling.clause_item arrow i rest) → Passed lo (part_notes s before (Item d i)) rest
+    HasFrom lo (spelling.clause_item arrow i rest) → Passed lo (member_notes s before (Item d i)) rest
 in-item s before d arrow i lo rest h =
     let one = in-place s (role.Flow d) i.stream lo (spelling.optional (spelling.join arrow) i.window rest) h in
     both one (in-join s before arrow i.stream i.window one.to rest one.after)
 
 in-items : (s : Scope) (before : List ℕ) (d : Direction) (arrow : Punct) (is : List tree.ClauseItemTree) (lo : ℕ) (rest : List Symbol) →
-    HasFrom lo (spelling.each (λ i. spelling.punct puncts.Comma ⨾ spelling.clause_item arrow i) is rest) → Passed lo (parts_notes s before (map (Item d) is)) rest
+    HasFrom lo (spelling.each (λ i. spelling.punct puncts.Comma ⨾ spelling.clause_item arrow i) is rest) → Passed lo (members_notes s before (map (Item d) is)) rest
 in-items s before d arrow [] lo rest h = silent lo rest h
 in-items s before d arrow (i ∷ is) lo rest h =
     let one = opened (in-item s before d arrow i (suc lo) _ h) in
-    both one (in-items s ((part_name (Item d i)).id ∷ before) d arrow is one.to rest one.after)
+    both one (in-items s ((member_name (Item d i)).id ∷ before) d arrow is one.to rest one.after)
 
 in-item_list : (s : Scope) (before : List ℕ) (d : Direction) (arrow : Punct) (is : List tree.ClauseItemTree) (lo : ℕ) (rest : List Symbol) →
-    HasFrom lo (spelling.listed (spelling.clause_item arrow) is rest) → Passed lo (parts_notes s before (map (Item d) is)) rest
+    HasFrom lo (spelling.listed (spelling.clause_item arrow) is rest) → Passed lo (members_notes s before (map (Item d) is)) rest
 in-item_list s before d arrow [] lo rest h = silent lo rest h
 in-item_list s before d arrow (i ∷ is) lo rest h =
     let one = in-item s before d arrow i lo _ h in
-    both one (in-items s ((part_name (Item d i)).id ∷ before) d arrow is one.to rest one.after)
+    both one (in-items s ((member_name (Item d i)).id ∷ before) d arrow is one.to rest one.after)
 
-in-private : (s : Scope) (before : List ℕ) (n : Name) (lo : ℕ) (rest : List Symbol) → HasFrom lo (spelling.name n rest) → Passed lo (part_notes s before (Private n)) rest
+in-private : (s : Scope) (before : List ℕ) (n : Name) (lo : ℕ) (rest : List Symbol) → HasFrom lo (spelling.name n rest) → Passed lo (member_notes s before (Private n)) rest
 in-private s before n lo rest h = quiet (Listed before n) refl (used s n usage.Private lo rest h.0 h.1)
 
 in-privates : (s : Scope) (before : List ℕ) (ns : List Name) (lo : ℕ) (rest : List Symbol) →
-    HasFrom lo (spelling.each (λ n. spelling.punct puncts.Comma ⨾ spelling.name n) ns rest) → Passed lo (parts_notes s before (map Private ns)) rest
+    HasFrom lo (spelling.each (λ n. spelling.punct puncts.Comma ⨾ spelling.name n) ns rest) → Passed lo (members_notes s before (map Private ns)) rest
 in-privates s before [] lo rest h = silent lo rest h
 in-privates s before (n ∷ ns) lo rest h =
     let more = spelling.each (λ n. spelling.punct puncts.Comma ⨾ spelling.name n) ns rest in
@@ -308,14 +308,14 @@ in-privates s before (n ∷ ns) lo rest h =
     both one (in-privates s (n.id ∷ before) ns one.to rest one.after)
 
 in-private_list : (s : Scope) (before : List ℕ) (ns : List Name) (lo : ℕ) (rest : List Symbol) →
-    HasFrom lo (spelling.listed spelling.name ns rest) → Passed lo (parts_notes s before (map Private ns)) rest
+    HasFrom lo (spelling.listed spelling.name ns rest) → Passed lo (members_notes s before (map Private ns)) rest
 in-private_list s before [] lo rest h = silent lo rest h
 in-private_list s before (n ∷ ns) lo rest h =
     let more = spelling.each (λ n. spelling.punct puncts.Comma ⨾ spelling.name n) ns rest in
     let one = in-private s before n lo more h in
     both one (in-privates s (n.id ∷ before) ns one.to rest one.after)
 
-in-kind : (s : Scope) (before : List ℕ) (k : tree.ClauseKindTree) (lo : ℕ) (rest : List Symbol) → HasFrom lo (spelling.clause_kind k rest) → Passed lo (parts_notes s before (clause_parts k)) rest
+in-kind : (s : Scope) (before : List ℕ) (k : tree.ClauseKindTree) (lo : ℕ) (rest : List Symbol) → HasFrom lo (spelling.clause_kind k rest) → Passed lo (members_notes s before (clause_members k)) rest
 in-kind s before (tree.Input is) lo rest h =
     opened (opened (closed (in-item_list s before direction.Reads puncts.ShiftRight is (suc (suc lo)) (spelling.punct puncts.CloseParen rest) h)))
 in-kind s before (tree.Output is) lo rest h =
@@ -324,17 +324,17 @@ in-kind s before (tree.Firstprivate ns) lo rest h =
     opened (opened (closed (in-private_list s before ns (suc (suc lo)) (spelling.punct puncts.CloseParen rest) h)))
 
 in-clause : (s : Scope) (before : List ℕ) (comma : Bool) (k : tree.ClauseKindTree) (lo : ℕ) (rest : List Symbol) →
-    HasFrom lo (spelling.comma comma (spelling.clause_kind k rest)) → Passed lo (parts_notes s before (clause_parts k)) rest
+    HasFrom lo (spelling.comma comma (spelling.clause_kind k rest)) → Passed lo (members_notes s before (clause_members k)) rest
 in-clause s before false k lo rest h = in-kind s before k lo rest h
 in-clause s before true k lo rest h = opened (in-kind s before k (suc lo) rest h)
 
 in-clauses : (s : Scope) (before : List ℕ) (cs : List tree.ClauseTree) (lo : ℕ) (rest : List Symbol) →
-    HasFrom lo (spelling.each spelling.clause cs rest) → Passed lo (parts_notes s before (parts cs)) rest
+    HasFrom lo (spelling.each spelling.clause cs rest) → Passed lo (members_notes s before (members cs)) rest
 in-clauses s before [] lo rest h = silent lo rest h
 in-clauses s before (c ∷ cs) lo rest h =
     let one = in-clause s before c.comma c.kind lo (spelling.each spelling.clause cs rest) h in
-    subst (λ ns. Passed lo ns rest) (sym (parts_notes-append s before (clause_parts c.kind) (parts cs)))
-    (both one (in-clauses s (names_after before (clause_parts c.kind)) cs one.to rest one.after))
+    subst (λ ns. Passed lo ns rest) (sym (members_notes-append s before (clause_members c.kind) (members cs)))
+    (both one (in-clauses s (names_after before (clause_members c.kind)) cs one.to rest one.after))
 
 -- a note of no name behind a part
 then_quiet : {lo : ℕ} {ns : List Note} {rest : List Symbol} (n : Note) → name_mark n ≡ [] → Passed lo ns rest → Passed lo (ns ++ n ∷ []) rest
@@ -373,9 +373,9 @@ mutual
   in-stmt s (tree.Continue m) lo rest h = quiet (Left s m) refl (opened (opened (silent (suc (suc lo)) rest h.1)))
   in-stmt s (tree.Return m e) lo rest h = quiet (Returned s m) refl (opened (closed (in-expr s e (suc lo) (spelling.punct puncts.Semicolon rest) h.1)))
   in-stmt s (tree.Task m cs a) lo rest h =
-      let inner = in_task_body s (parts cs) a in
+      let inner = in_task_body s (members cs) a in
       let one = opened (opened (opened (closed (in-clauses s [] cs (suc (suc (suc lo))) (spelling.token kind.PragmaEnd (spelling.stmt a rest)) h.1)))) in
-      let two = then_quiet (Task s m (count_items (parts cs)) (captured s.entries (parts cs) a)) refl one in
+      let two = then_quiet (Task s m (count_items (members cs)) (captured s.entries (members cs) a)) refl one in
       both two (in-stmt inner a two.to rest two.after)
   in-stmt s (tree.Tick m t arrow e) lo rest h =
       let last = spelling.punct puncts.CloseParen (spelling.token kind.PragmaEnd rest) in

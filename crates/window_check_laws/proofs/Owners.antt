@@ -6,7 +6,7 @@ use Rattle.os_ast.specs.Notes.Clauses.{with_items, item_entity, item_flag}
 use Rattle.os_ast.specs.Notes.Declarators.{form, taken, after_declarator, after_declarators, after_start}
 use Rattle.os_ast.specs.Notes.Programs.{in_body, in_function, after_param, after_params, round_body, owner_of, param_list}
 use Rattle.os_ast.specs.Notes.Statements.{after_stmt, after_stmts}
-use Rattle.os_ast.specs.ClauseParts.{ClausePart, Item, Private, item_name}
+use Rattle.os_ast.specs.ClauseMembers.{ClauseMember, Item, Private, item_name}
 use Rattle.os_ast.specs.Trees as tree
 use Rattle.os_ast.specs.declared.names.Form.{Form}
 use Rattle.os_ast.specs.declared.names.Form.TheVariants as form_of
@@ -54,7 +54,7 @@ mutual
   owner_stmts s tree.no_stmts = refl
   owner_stmts s (tree.stmt a rest) = owner_stmts (after_stmt s a) rest ∙ owner_stmt s a
 
-pub owner_items : (s inner : Scope) (n : ℕ) (ps : List ClausePart) → (with_items s inner n ps).owner ≡ inner.owner
+pub owner_items : (s inner : Scope) (n : ℕ) (ps : List ClauseMember) → (with_items s inner n ps).owner ≡ inner.owner
 owner_items s inner n [] = refl
 owner_items s inner n (Item d i ∷ ps) = owner_items s (declare (flagged (item_flag s i) inner) (item_name i.stream i.window).id (item_entity s n d i)) (suc n) ps
 owner_items s inner n (Private p ∷ ps) = owner_items s inner n ps

@@ -5,13 +5,13 @@ use Rattle.os_ast.specs.declared.ty.Ty.TheVariants as ty_of
 use Rattle.os_ast.specs.declared.ty.Ty.{Ty}
 use Rattle.os_ast.specs.declared.program.Param.{Param}
 use Rattle.os_ast.specs.Names.{Scope, enter, in_loop, typed}
-use Rattle.os_ast.specs.Notes.Clauses.{part_notes, parts_notes, window_notes, clauses_notes, in_task_body}
+use Rattle.os_ast.specs.Notes.Clauses.{member_notes, members_notes, window_notes, clauses_notes, in_task_body}
 use Rattle.os_ast.specs.Notes.Declarators.{declarator_notes, declarators_notes, after_declarator, after_start, start_notes, sized_notes, size_notes, is_window}
 use Rattle.os_ast.specs.Notes.Expressions.{expr_notes, place_notes, args_notes, links_notes, value_notes, index_notes, change_notes, step_notes}
 use Rattle.os_ast.specs.Notes.Kinds.{Note, mark_of}
 use Rattle.os_ast.specs.Notes.Programs.{params_notes, after_param, param_list, item_notes, items_notes, after_item, in_function, in_body}
 use Rattle.os_ast.specs.Notes.Statements.{stmt_notes, stmts_notes, after_stmt}
-use Rattle.os_ast.specs.ClauseParts.{ClausePart, Item, Private, parts, clause_parts, part_name, target_name}
+use Rattle.os_ast.specs.ClauseMembers.{ClauseMember, Item, Private, members, clause_members, member_name, target_name}
 use Rattle.os_ast.specs.Spelling as spelling
 use Rattle.os_ast.specs.Spelling.{Symbol, bare, marked, ◌⨾◌}
 use Rattle.os_ast.specs.Trees as tree
@@ -161,18 +161,18 @@ of-start P s tree.StartTree.Empty rest h = (tt, h)
 of-start P s (tree.StartTree.Declare t ds) rest h = of-listed P (typed t s) ds _ (of-type P t _ h)
 of-start P s (tree.StartTree.Change c) rest h = of-change P s c _ h
 
--- the parts of clauses
-abbrev pub ArePlaced : (Mark → Type 0) → Scope → List ClausePart → Type 0
+-- the members of clauses
+abbrev pub ArePlaced : (Mark → Type 0) → Scope → List ClauseMember → Type 0
 ArePlaced P s [] = ⊤
-ArePlaced P s (p ∷ ps) = ((before : List ℕ) → AreOf P (part_notes s before p)) × ArePlaced P s ps
+ArePlaced P s (p ∷ ps) = ((before : List ℕ) → AreOf P (member_notes s before p)) × ArePlaced P s ps
 
-placed-append : (P : Mark → Type 0) (s : Scope) (ps qs : List ClausePart) → ArePlaced P s ps → ArePlaced P s qs → ArePlaced P s (ps ++ qs)
+placed-append : (P : Mark → Type 0) (s : Scope) (ps qs : List ClauseMember) → ArePlaced P s ps → ArePlaced P s qs → ArePlaced P s (ps ++ qs)
 placed-append P s [] qs a b = b
 placed-append P s (p ∷ ps) qs a b = (a.0, placed-append P s ps qs a.1 b)
 
-of-parts : (P : Mark → Type 0) (s : Scope) (before : List ℕ) (ps : List ClausePart) → ArePlaced P s ps → AreOf P (parts_notes s before ps)
-of-parts P s before [] h = tt
-of-parts P s before (p ∷ ps) h = of-append P (part_notes s before p) (parts_notes s ((part_name p).id ∷ before) ps) (h.0 before) (of-parts P s ((part_name p).id ∷ before) ps h.1)
+of-members : (P : Mark → Type 0) (s : Scope) (before : List ℕ) (ps : List ClauseMember) → ArePlaced P s ps → AreOf P (members_notes s before ps)
+of-members P s before [] h = tt
+of-members P s before (p ∷ ps) h = of-append P (member_notes s before p) (members_notes s ((member_name p).id ∷ before) ps) (h.0 before) (of-members P s ((member_name p).id ∷ before) ps h.1)
 
 -- the mark of a target's name
 of-target_name : (P : Mark → Type 0) (t : tree.TargetTree) (rest : List Symbol) → HasKept P (spelling.target t rest) → P (target_name t).mark
@@ -185,7 +185,7 @@ of-window P s arrow t None rest m h = (λ before. (m, tt), h)
 of-window P s arrow t (Some j) rest m h = let i = of-index P s j.burst rest h.1.1 in (λ before. (h.1.0, (h.1.0, i.0)), i.1)
 
 of-item : (P : Mark → Type 0) (s : Scope) (d : Direction) (arrow : Punct) (i : tree.ClauseItemTree) (rest : List Symbol) → HasKept P (spelling.clause_item arrow i rest) →
-    ((before : List ℕ) → AreOf P (part_notes s before (Item d i))) × HasKept P rest
+    ((before : List ℕ) → AreOf P (member_notes s before (Item d i))) × HasKept P rest
 of-item P s d arrow i rest h =
     let one = of-place P s (role.Flow d) i.stream _ h in
     let two = of-window P s arrow i.stream i.window rest (of-target_name P i.stream _ h) one.1 in
@@ -207,7 +207,7 @@ of-item_list P s d arrow (i ∷ is) rest h =
     let more = of-items P s d arrow is rest one.1 in
     ((one.0, more.0), more.1)
 
-of-private : (P : Mark → Type 0) (s : Scope) (n : Name) (before : List ℕ) → P n.mark → AreOf P (part_notes s before (Private n))
+of-private : (P : Mark → Type 0) (s : Scope) (n : Name) (before : List ℕ) → P n.mark → AreOf P (member_notes s before (Private n))
 of-private P s n before h = (h, (h, tt))
 
 of-privates : (P : Mark → Type 0) (s : Scope) (ns : List Name) (rest : List Symbol) →
@@ -220,7 +220,7 @@ of-private_list : (P : Mark → Type 0) (s : Scope) (ns : List Name) (rest : Lis
 of-private_list P s [] rest h = (tt, h)
 of-private_list P s (n ∷ ns) rest h = let more = of-privates P s ns rest h.1 in ((λ before. of-private P s n before h.0, more.0), more.1)
 
-of-kind : (P : Mark → Type 0) (s : Scope) (k : tree.ClauseKindTree) (rest : List Symbol) → HasKept P (spelling.clause_kind k rest) → ArePlaced P s (clause_parts k) × HasKept P rest
+of-kind : (P : Mark → Type 0) (s : Scope) (k : tree.ClauseKindTree) (rest : List Symbol) → HasKept P (spelling.clause_kind k rest) → ArePlaced P s (clause_members k) × HasKept P rest
 of-kind P s (tree.Input is) rest h = of-item_list P s direction.Reads puncts.ShiftRight is _ h
 of-kind P s (tree.Output is) rest h = of-item_list P s direction.Writes puncts.ShiftLeft is _ h
 of-kind P s (tree.Firstprivate ns) rest h = of-private_list P s ns _ h
@@ -229,15 +229,15 @@ of-comma : (P : Mark → Type 0) (comma : Bool) (rest : List Symbol) → HasKept
 of-comma P false rest h = h
 of-comma P true rest h = h
 
-of-clauses : (P : Mark → Type 0) (s : Scope) (cs : List tree.ClauseTree) (rest : List Symbol) → HasKept P (spelling.each spelling.clause cs rest) → ArePlaced P s (parts cs) × HasKept P rest
+of-clauses : (P : Mark → Type 0) (s : Scope) (cs : List tree.ClauseTree) (rest : List Symbol) → HasKept P (spelling.each spelling.clause cs rest) → ArePlaced P s (members cs) × HasKept P rest
 of-clauses P s [] rest h = (tt, h)
 of-clauses P s (c ∷ cs) rest h =
     let one = of-kind P s c.kind _ (of-comma P c.comma _ h) in
     let more = of-clauses P s cs rest one.1 in
-    (placed-append P s (clause_parts c.kind) (parts cs) one.0 more.0, more.1)
+    (placed-append P s (clause_members c.kind) (members cs) one.0 more.0, more.1)
 
-of-task : (P : Mark → Type 0) (s : Scope) (m : Mark) (ps : List ClausePart) (a : tree.StmtTree) → P m → ArePlaced P s ps → AreOf P (clauses_notes s m ps a)
-of-task P s m ps a h is = of-append P (parts_notes s [] ps) _ (of-parts P s [] ps is) (h, tt)
+of-task : (P : Mark → Type 0) (s : Scope) (m : Mark) (ps : List ClauseMember) (a : tree.StmtTree) → P m → ArePlaced P s ps → AreOf P (clauses_notes s m ps a)
+of-task P s m ps a h is = of-append P (members_notes s [] ps) _ (of-members P s [] ps is) (h, tt)
 
 mutual
   of-stmt : (P : Mark → Type 0) (s : Scope) (a : tree.StmtTree) (rest : List Symbol) → HasKept P (spelling.stmt a rest) → AreOf P (stmt_notes s a) × HasKept P rest
@@ -274,10 +274,10 @@ mutual
   of-stmt P s (tree.Continue m) rest h = ((h.0, tt), h.1)
   of-stmt P s (tree.Return m e) rest h = let one = of-expr P s e _ h.1 in ((h.0, one.0), one.1)
   of-stmt P s (tree.Task m cs a) rest h =
-      let inner = in_task_body s (parts cs) a in
+      let inner = in_task_body s (members cs) a in
       let one = of-clauses P s cs _ h.1 in
       let two = of-stmt P inner a rest one.1 in
-      (of-append P (clauses_notes s m (parts cs) a) (stmt_notes inner a) (of-task P s m (parts cs) a h.0 one.0) two.0, two.1)
+      (of-append P (clauses_notes s m (members cs) a) (stmt_notes inner a) (of-task P s m (members cs) a h.0 one.0) two.0, two.1)
   of-stmt P s (tree.Tick m t arrow e) rest h =
       let one = of-place P s (role.Flow direction.Reads) t _ h.1 in
       let two = of-expr P s e _ one.1.1 in

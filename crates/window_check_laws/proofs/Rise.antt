@@ -7,7 +7,7 @@ use Rattle.os_ast.specs.Notes.Clauses.{with_items, in_task, in_task_body, captur
 use Rattle.os_ast.specs.Notes.Declarators.{form, taken, after_declarator, after_declarators, after_start}
 use Rattle.os_ast.specs.Notes.Programs.{in_body, in_function, after_param, after_params, after_item, after_items, round_body, owner_of, param_list}
 use Rattle.os_ast.specs.Notes.Statements.{after_stmt, after_stmts}
-use Rattle.os_ast.specs.ClauseParts.{ClausePart, Item, Private, parts, item_name}
+use Rattle.os_ast.specs.ClauseMembers.{ClauseMember, Item, Private, members, item_name}
 use Rattle.os_ast.specs.Trees as tree
 use Rattle.os_ast.specs.declared.names.Form.{Form}
 use Rattle.os_ast.specs.declared.names.Form.TheVariants as form_of
@@ -69,7 +69,7 @@ grow_start s tree.StartTree.Empty = omega arith
 grow_start s (tree.StartTree.Declare t ds) = grow_declarators (typed t s) ds
 grow_start s (tree.StartTree.Change c) = omega arith
 
-pub streams_items : (s inner : Scope) (n : ℕ) (ps : List ClausePart) → (with_items s inner n ps).streams ≡ inner.streams
+pub streams_items : (s inner : Scope) (n : ℕ) (ps : List ClauseMember) → (with_items s inner n ps).streams ≡ inner.streams
 streams_items s inner n [] = refl
 streams_items s inner n (Item d i ∷ ps) =
     streams_items s (declare (flagged (item_flag s i) inner) (item_name i.stream i.window).id (item_entity s n d i)) (suc n) ps
@@ -90,8 +90,8 @@ mutual
   grow_stmt s (tree.Continue m) = omega arith
   grow_stmt s (tree.Return m e) = omega arith
   grow_stmt s (tree.Task m cs a) =
-      let round = in_task s (captured_in s.owner (slots_of (captured s.entries (parts cs) a))) in
-      omega (arith, streams_items s round 0 (parts cs), grow_stmt (in_task_body s (parts cs) a) a)
+      let round = in_task s (captured_in s.owner (slots_of (captured s.entries (members cs) a))) in
+      omega (arith, streams_items s round 0 (members cs), grow_stmt (in_task_body s (members cs) a) a)
   grow_stmt s (tree.Tick m t arrow e) = omega arith
   grow_stmt s (tree.Taskwait m) = omega arith
 

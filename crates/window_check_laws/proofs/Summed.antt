@@ -11,7 +11,7 @@ use Rattle.os_ast.specs.Notes.Expressions.{expr_notes, value_notes, step_notes}
 use Rattle.os_ast.specs.Notes.Kinds.{Note, Used, Sized, Declared, Parameter, Global, Left, Returned, Pragma, Task, Listed}
 use Rattle.os_ast.specs.Notes.Programs.{after_param, after_params, in_body, in_function, owner_of, param_list, round_body}
 use Rattle.os_ast.specs.Notes.Statements.{after_stmt, after_stmts, stmt_notes, stmts_notes}
-use Rattle.os_ast.specs.ClauseParts.{Item, ClausePart, Private, item_name}
+use Rattle.os_ast.specs.ClauseMembers.{Item, ClauseMember, Private, item_name}
 use Rattle.os_ast.specs.Stacked.{Extent, Stacked, begins, ends}
 use Rattle.os_ast.specs.Trees as tree
 use Rattle.os_ast.specs.declared.names.Entity.{Entity}
@@ -138,12 +138,12 @@ slots-in_body s f =
     let given = slots-params (in_function s f.name.id) (param_list f.params) in
     omega (arith, round, given)
 
-slots-items : (s inner : Scope) (n : ℕ) (ps : List ClausePart) → (with_items s inner n ps).slots ≡ inner.slots
+slots-items : (s inner : Scope) (n : ℕ) (ps : List ClauseMember) → (with_items s inner n ps).slots ≡ inner.slots
 slots-items s inner n [] = refl
 slots-items s inner n (Item d i ∷ ps) = slots-items s (declare (flagged (item_flag s i) inner) (item_name i.stream i.window).id (item_entity s n d i)) (suc n) ps
 slots-items s inner n (Private p ∷ ps) = slots-items s inner n ps
 
-pub slots-in_task : (s : Scope) (ps : List ClausePart) (a : tree.StmtTree) →
+pub slots-in_task : (s : Scope) (ps : List ClauseMember) (a : tree.StmtTree) →
     (in_task_body s ps a).slots ≡ length (captured_in s.owner (slots_of (captured s.entries ps a)))
 slots-in_task s ps a = slots-items s (in_task s (captured_in s.owner (slots_of (captured s.entries ps a)))) 0 ps
 

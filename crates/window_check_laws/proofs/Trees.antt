@@ -1,14 +1,14 @@
--- The rest of a list of parts, one part at a time, and what a tree of the code holds as a row.
+-- The rest of a list, one item at a time, and what a tree of the code holds as a row.
 use Rattle.std.proofs.Common.{◌≡◌, ℕ, ◌+◌, ◌<◌, List, [], ◌∷◌, ◌++◌, ◌||◌, length, suc, get_or, drop, add-one, map, refl, ap}
 use Rattle.std.proofs.Math.Seq.{drop-cons}
 use Rattle.os_ast.proofs.Rows.{stmt_tree-block}
 use Rattle.os_ast.specs.Trees as tree
 use Rattle.os_ast.specs.Names.{Scope}
-use Rattle.os_ast.specs.ClauseParts.{parts, clause_parts}
+use Rattle.os_ast.specs.ClauseMembers.{members, clause_members}
 use Rattle.os_ast.specs.Notes.Declarators.{after_declarator, after_declarators, declarator_notes, declarators_notes}
 use Rattle.os_ast.specs.Notes.Expressions.{count_args}
 use Rattle.os_ast.specs.Notes.Statements.{after_stmt, after_stmts, stmt_notes, stmts_notes}
-use Rattle.os_ast.specs.Views.{expr_tree, args_tree, links_tree, declarator_tree, clause_tree, stmt_tree, stmts_tree, item_tree}
+use Rattle.os_ast.specs.Views.{expr_tree, args_tree, links_tree, declarator_tree, clause_kind_tree, clause_tree, stmt_tree, stmts_tree, item_tree}
 use Rattle.os_ast.specs.Violations.{is_main, has_main}
 use Rattle.os_ast.specs.declared.expr.Expr.{Expr}
 use Rattle.os_ast.specs.declared.expr.Link.{Link}
@@ -37,9 +37,9 @@ pub map-drop : {A B : Type 0} (view : A → B) (xs : List A) (i : ℕ) (x : A) �
     map view (drop i xs) ≡ view x ∷ map view (drop (i + 1) xs)
 map-drop view xs i x h is = rw (drop-cons xs i x h, ← is, add-one)
 
-pub parts-drop : (cs : List Clause) (i : ℕ) (c : Clause) → i < length cs → c ≡ get_or cs i c →
-    parts (map clause_tree (drop i cs)) ≡ clause_parts (clause_tree c).kind ++ parts (map clause_tree (drop (i + 1) cs))
-parts-drop cs i c h is = rw (drop-cons cs i c h, ← is, add-one)
+pub members-drop : (cs : List Clause) (i : ℕ) (c : Clause) → i < length cs → c ≡ get_or cs i c →
+    members (map clause_tree (drop i cs)) ≡ clause_members (clause_kind_tree c.kind) ++ members (map clause_tree (drop (i + 1) cs))
+members-drop cs i c h is = rw (drop-cons cs i c h, ← is, add-one)
 
 pub stmts_notes-drop : (s : Scope) (ss : List Stmt) (i : ℕ) (a : Stmt) → i < length ss → a ≡ get_or ss i a →
     stmts_notes s (stmts_tree (drop i ss)) ≡ stmt_notes s (stmt_tree a) ++ stmts_notes (after_stmt s (stmt_tree a)) (stmts_tree (drop (i + 1) ss))
@@ -62,4 +62,4 @@ pub has_main-drop : (is : List Item) (i : ℕ) (x : Item) → i < length is → 
     has_main (map item_tree (drop i is)) ≡ is_main (item_tree x) || has_main (map item_tree (drop (i + 1) is))
 has_main-drop is i x h e = rw (drop-cons is i x h, ← e, add-one)
 
-pub ruleset stmts = (stmt_tree-block, stmts_notes-drop, after_stmts-drop, parts-drop)
+pub ruleset stmts = (stmt_tree-block, stmts_notes-drop, after_stmts-drop, members-drop)

@@ -11,7 +11,7 @@ use Rattle.os_ast.specs.Notes.Expressions.{expr_notes, step_notes, value_notes}
 use Rattle.os_ast.specs.Notes.Kinds.{Global, Note}
 use Rattle.os_ast.specs.Notes.Programs.{after_item, after_items, file, in_body, in_function, item_notes, items_notes, owner_of, param_list, params_notes}
 use Rattle.os_ast.specs.Notes.Statements.{after_stmt, after_stmts, stmt_notes, stmts_notes}
-use Rattle.os_ast.specs.ClauseParts.{parts}
+use Rattle.os_ast.specs.ClauseMembers.{members}
 use Rattle.os_ast.specs.Spelling.{kind_of, symbols, spell}
 use Rattle.os_ast.specs.Trees as tree
 use Rattle.os_ast.specs.Violations.{violations}
@@ -118,7 +118,7 @@ mutual
   stmt-paid (tree.Continue m) s room = omega arith
   stmt-paid (tree.Return m e) s room = omega arith
   stmt-paid (tree.Task m cs a) s room =
-      let ps = parts cs in
+      let ps = members cs in
       let caught = slots_of (captured s.entries ps a) in
       let round = in_task s (captured_in s.owner caught) in
       let inner = in_task_body s ps a in

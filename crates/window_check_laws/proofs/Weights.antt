@@ -7,7 +7,7 @@ use Rattle.os_ast.specs.declared.ty.Ty.{Ty}
 use Rattle.os_ast.specs.declared.program.Param.{Param}
 use Rattle.os_ast.proofs.Prints.{prints_item}
 use Rattle.os_ast.specs.Limits.{size_limit}
-use Rattle.os_ast.specs.ClauseParts.{Item, Private, parts, clause_parts}
+use Rattle.os_ast.specs.ClauseMembers.{Item, Private, members, clause_members}
 use Rattle.os_ast.specs.Notes.Programs.{file, param_list}
 use Rattle.os_ast.specs.Operators.{assign_mark, step_mark}
 use Rattle.os_ast.specs.Spelling as spelling
@@ -159,7 +159,7 @@ long-private_list : (ns : List Name) (rest : List Symbol) → length (map Privat
 long-private_list [] rest = omega arith
 long-private_list (n ∷ ns) rest = omega (arith, long-privates ns rest)
 
-long-kind : (k : tree.ClauseKindTree) (rest : List Symbol) → length (clause_parts k) + length rest ≤ length (spelling.clause_kind k rest)
+long-kind : (k : tree.ClauseKindTree) (rest : List Symbol) → length (clause_members k) + length rest ≤ length (spelling.clause_kind k rest)
 long-kind (tree.Input is) rest = omega (arith, long-item_list direction.Reads puncts.ShiftRight is (spelling.punct puncts.CloseParen rest))
 long-kind (tree.Output is) rest = omega (arith, long-item_list direction.Writes puncts.ShiftLeft is (spelling.punct puncts.CloseParen rest))
 long-kind (tree.Firstprivate ns) rest = omega (arith, long-private_list ns (spelling.punct puncts.CloseParen rest))
@@ -168,11 +168,11 @@ long-comma : (comma : Bool) (rest : List Symbol) → length rest ≤ length (spe
 long-comma false rest = omega arith
 long-comma true rest = omega arith
 
-long-clauses : (cs : List tree.ClauseTree) (rest : List Symbol) → length (parts cs) + length rest ≤ length (spelling.each spelling.clause cs rest)
+long-clauses : (cs : List tree.ClauseTree) (rest : List Symbol) → length (members cs) + length rest ≤ length (spelling.each spelling.clause cs rest)
 long-clauses [] rest = omega arith
 long-clauses (c ∷ cs) rest =
     let more = spelling.each spelling.clause cs rest in
-    omega (arith, long-clauses cs rest, long-kind c.kind more, long-comma c.comma (spelling.clause_kind c.kind more), length-append (clause_parts c.kind) (parts cs))
+    omega (arith, long-clauses cs rest, long-kind c.kind more, long-comma c.comma (spelling.clause_kind c.kind more), length-append (clause_members c.kind) (members cs))
 
 mutual
   long-stmt : (a : tree.StmtTree) (rest : List Symbol) → stmt_weight a + 16383 * length rest ≤ 16383 * length (spelling.stmt a rest)

@@ -9,7 +9,7 @@ use Rattle.os_ast.specs.Notes.Declarators.{form, size_told, taken, declared_enti
 use Rattle.os_ast.specs.Notes.Expressions.{expr_notes, value_notes, step_notes}
 use Rattle.os_ast.specs.Notes.Programs.{in_body, in_function, after_param, after_params, after_item, after_items, item_notes, items_notes, params_notes, round_body, owner_of, param_list}
 use Rattle.os_ast.specs.Notes.Statements.{after_stmt, after_stmts, stmt_notes, stmts_notes}
-use Rattle.os_ast.specs.ClauseParts.{ClausePart, Item, Private, parts, item_name}
+use Rattle.os_ast.specs.ClauseMembers.{ClauseMember, Item, Private, members, item_name}
 use Rattle.os_ast.specs.Rules.{has_no_size, has_too_many}
 use Rattle.os_ast.specs.Trees as tree
 use Rattle.os_ast.specs.declared.names.Form.{Form}
@@ -51,7 +51,7 @@ within-start s tree.StartTree.Empty h k = h
 within-start s (tree.StartTree.Declare t ds) h k = within-declarators (typed t s) ds (record { streams = h.streams; arrays = h.arrays }) k
 within-start s (tree.StartTree.Change c) h k = h
 
-within-items : (s inner : Scope) (n : ℕ) (ps : List ClausePart) → IsWithin inner → IsWithin (with_items s inner n ps)
+within-items : (s inner : Scope) (n : ℕ) (ps : List ClauseMember) → IsWithin inner → IsWithin (with_items s inner n ps)
 within-items s inner n [] h = h
 within-items s inner n (Item d i ∷ ps) h =
     within-items s (declare (flagged (item_flag s i) inner) (item_name i.stream i.window).id (item_entity s n d i)) (suc n) ps (record { streams = h.streams; arrays = h.arrays })
@@ -87,7 +87,7 @@ mutual
   within-stmt s (tree.Continue m) h k = h
   within-stmt s (tree.Return m e) h k = h
   within-stmt s (tree.Task m cs a) h k =
-      let ps = parts cs in
+      let ps = members cs in
       let inner = in_task_body s ps a in
       let round = in_task s (captured_in s.owner (slots_of (captured s.entries ps a))) in
       moved {s = after_stmt inner a} refl refl

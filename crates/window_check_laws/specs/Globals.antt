@@ -2,7 +2,7 @@
 use Rattle.std.specs.Prelude.{⊤, ◌≡◌, ℕ, suc, ◌≤◌, false, List, [], ◌∷◌}
 use Rattle.os_ast.specs.Limits.{arrays_limit, streams_limit}
 use Rattle.os_ast.specs.Names.{Scope}
-use Rattle.os_ast.specs.ClauseParts.{is_in}
+use Rattle.os_ast.specs.ClauseMembers.{is_in}
 use Rattle.os_ast.specs.Notes.Programs.{global_id}
 use Rattle.os_ast.specs.Trees as tree
 

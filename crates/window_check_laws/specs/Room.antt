@@ -3,7 +3,7 @@ use Rattle.std.specs.Prelude.{◌≡◌, ℕ, ◌+◌, ◌≤◌, List, [], ◌�
 use Rattle.os_ast.specs.Limits.{size_limit}
 use Rattle.os_ast.specs.Names.{Scope}
 use Rattle.os_ast.specs.Notes.Programs.{param_list}
-use Rattle.os_ast.specs.ClauseParts.{parts}
+use Rattle.os_ast.specs.ClauseMembers.{members}
 use Rattle.os_ast.specs.Stacked.{Stacked, main_extent}
 use Rattle.os_ast.specs.Trees as tree
 use Rattle.os_ast.specs.declared.names.Form.{Form}
@@ -40,7 +40,7 @@ abbrev mutual
   stmt_weight (tree.Break m) = 0
   stmt_weight (tree.Continue m) = 0
   stmt_weight (tree.Return m e) = 0
-  stmt_weight (tree.Task m cs a) = 1 + length (parts cs) + stmt_weight a
+  stmt_weight (tree.Task m cs a) = 1 + length (members cs) + stmt_weight a
   stmt_weight (tree.Tick m t arrow e) = 0
   stmt_weight (tree.Taskwait m) = 0
 

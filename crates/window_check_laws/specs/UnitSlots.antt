@@ -5,7 +5,7 @@ use Rattle.os_ast.specs.Notes.Clauses.{in_task_body}
 use Rattle.os_ast.specs.Notes.Declarators.{after_start}
 use Rattle.os_ast.specs.Notes.Programs.{after_item, file, in_body}
 use Rattle.os_ast.specs.Notes.Statements.{after_stmt, after_stmts}
-use Rattle.os_ast.specs.ClauseParts.{parts}
+use Rattle.os_ast.specs.ClauseMembers.{members}
 use Rattle.os_ast.specs.Trees as tree
 
 -- the slots of the tasks in a statement, together
@@ -24,7 +24,7 @@ abbrev mutual
   tasks_slots s (tree.Continue m) = 0
   tasks_slots s (tree.Return m e) = 0
   tasks_slots s (tree.Task m cs a) =
-      let inner = in_task_body s (parts cs) a in (after_stmt inner a).slots + tasks_slots inner a
+      let inner = in_task_body s (members cs) a in (after_stmt inner a).slots + tasks_slots inner a
   tasks_slots s (tree.Tick m t arrow e) = 0
   tasks_slots s (tree.Taskwait m) = 0
 

@@ -12,7 +12,7 @@ ghost use Rattle.os_ast.specs.Notes.Declarators.{after_declarator};
 ghost use Rattle.os_ast.specs.Notes.Kinds.{Note, Used};
 ghost use Rattle.os_ast.specs.Notes.Programs.{after_items, file, in_body, owner_of, param_list, program_notes};
 ghost use Rattle.os_ast.specs.Notes.Statements.{after_stmt, after_stmts, stmt_notes, stmts_notes};
-ghost use Rattle.os_ast.specs.ClauseParts.{ClausePart, private_ids, is_in};
+ghost use Rattle.os_ast.specs.ClauseMembers.{ClauseMember, private_ids, is_in};
 ghost use Rattle.os_ast.specs.Spelling.{spell};
 ghost use Rattle.os_ast.specs.Stacked.{Stacked, main_extent};
 ghost use Rattle.os_ast.specs.Trees as tree;
@@ -54,10 +54,10 @@ pub fn marks_have_places()
 /// What a task captures, told by what stands in its body: the scalars of `main` that its names mean there, each in its
 /// own scope, and those that its `firstprivate` clauses name. Their slots ascend, so that each is there once.
 pub fn captured_scalars_are_used()
-    ensures members { (s : Scope) (ps : List ClausePart) (a : tree.StmtTree) (x : ℕ) →
+    ensures members { (s : Scope) (ps : List ClauseMember) (a : tree.StmtTree) (x : ℕ) →
         is_in x (slots_of (captured s.entries ps a))
         ≡ (is_in x (slots_named s.entries (private_ids ps)) || is_in x (used_slots (stmt_notes (in_task_body s ps a) a))) }
-    ensures ascending { (es : List Entry) (ps : List ClausePart) (a : tree.StmtTree) (top : ℕ) →
+    ensures ascending { (es : List Entry) (ps : List ClauseMember) (a : tree.StmtTree) (top : ℕ) →
         Stacked main_extent top es → Ascends 0 (slots_of (captured es ps a)) }
 {}
 
@@ -101,7 +101,7 @@ pub fn slots_are_stacked()
 pub fn slots_are_summed()
     ensures function { (s : Scope) (f : tree.FunctionTree) →
         (in_body s f).slots ≡ slots_round (owner_of f.name.id) + length (param_list f.params) }
-    ensures task { (s : Scope) (ps : List ClausePart) (a : tree.StmtTree) →
+    ensures task { (s : Scope) (ps : List ClauseMember) (a : tree.StmtTree) →
         (in_task_body s ps a).slots ≡ length (captured_in s.owner (slots_of (captured s.entries ps a))) }
     ensures statement { (size : tree.ExprTree → ℕ) (s : Scope) (a : tree.StmtTree) → HasSizes size (stmt_notes s a) →
         (after_stmt s a).slots ≡ s.slots + stmt_slots s.owner size a }

@@ -16,7 +16,7 @@ use Rattle.os_ast.specs.declared.expr.Mark.{Mark}
 use Rattle.os_ast.specs.declared.expr.Name.{Name}
 use Rattle.os_ast.specs.declared.program.Param.{Param}
 use Rattle.os_ast.specs.Unsigned.{is_unsigned}
-use Rattle.os_ast.specs.ClauseParts.{is_in}
+use Rattle.os_ast.specs.ClauseMembers.{is_in}
 use Rattle.os_ast.specs.declared.names.Form.{Form}
 use Rattle.os_ast.specs.declared.names.Form.TheVariants as form_of
 use Rattle.os_ast.specs.declared.names.Owner.{Owner}

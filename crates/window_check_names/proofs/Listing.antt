@@ -6,10 +6,10 @@ use Rattle.std.specs.List.{list_any}
 use Rattle.std.specs.Ordering.{nat_cmp, is_eq}
 use Rattle.std.proofs.lemmas.Bool.{cases_order, lt-ltb, le-ltb, ne_eqb}
 use Rattle.os_ast.specs.Names.{Scope, lookup, entity_of, declare, flagged}
-use Rattle.os_ast.specs.Notes.Clauses.{part_notes, parts_notes, window_notes, shape_of, with_items, named_entity}
+use Rattle.os_ast.specs.Notes.Clauses.{member_notes, members_notes, window_notes, shape_of, with_items, named_entity}
 use Rattle.os_ast.specs.Notes.Expressions.{place_notes, index_notes}
 use Rattle.os_ast.specs.Notes.Kinds.{Used, Listed}
-use Rattle.os_ast.specs.ClauseParts.{ClausePart, Item, Private, part_name, is_in, count_items, target_name, item_name, private_ids}
+use Rattle.os_ast.specs.ClauseMembers.{ClauseMember, Item, Private, member_name, is_in, count_items, target_name, item_name, private_ids}
 use Rattle.os_ast.specs.Trees as tree
 use Rattle.os_ast.specs.declared.expr.Name.{Name}
 use Rattle.os_ast.specs.declared.names.Direction.{Direction}
@@ -27,8 +27,8 @@ use Rattle.window_check_names.specs.declared.found.Found.{Found}
 use Rattle.window_check_names.specs.declared.found.Found.TheVariants.{Listing, Judging, Collecting}
 use Rattle.window_check_laws.specs.CapturedByUse.{slots_named}
 use Rattle.window_check_laws.specs.Slots.{with_slot, with_slots, control_slots}
-use Rattle.window_check_names.specs.declared.parts.ItemName.{ItemName}
-use Rattle.window_check_names.specs.Parts.{ListedParts, none_listed, inside, after_part, after_parts, listed_notes, after_names}
+use Rattle.window_check_names.specs.declared.members.ItemName.{ItemName}
+use Rattle.window_check_names.specs.Members.{ListedMembers, none_listed, inside, after_member, after_members, listed_notes, after_names}
 use Rattle.os_ast.specs.declared.rule.Rule.TheVariants as rule
 
 abbrev SameNames : List ℕ → List ℕ → Type 0
@@ -62,29 +62,29 @@ window-same f s names before same t None = listed-same f names before same (targ
 window-same f s names before same t (Some j) =
     ap (λ (g : Found). noted (note g (Used s j.name (usage.Joined (shape_of j.burst)))) (index_notes s j.burst)) (listed-same f names before same j.name)
 
-part-same : (f : Found) (s : Scope) (names before : List ℕ) → SameNames names before → (p : ClausePart) → noted f (part_notes s names p) ≡ noted f (part_notes s before p)
-part-same f s names before same (Item d i) =
+member-same : (f : Found) (s : Scope) (names before : List ℕ) → SameNames names before → (p : ClauseMember) → noted f (member_notes s names p) ≡ noted f (member_notes s before p)
+member-same f s names before same (Item d i) =
     let stream = place_notes s (role.Flow d) i.stream in
     noted-append f stream (window_notes s names i.stream i.window)
     ∙ window-same (noted f stream) s names before same i.stream i.window
     ∙ sym (noted-append f stream (window_notes s before i.stream i.window))
-part-same f s names before same (Private n) = ap (λ (g : Found). note g (Used s n usage.Private)) (listed-same f names before same n)
+member-same f s names before same (Private n) = ap (λ (g : Found). note g (Used s n usage.Private)) (listed-same f names before same n)
 
-same-more : (s : Scope) (l : ListedParts) (before : List ℕ) (p : ClausePart) → SameNames l.names before → SameNames (after_part s l p).names ((part_name p).id ∷ before)
+same-more : (s : Scope) (l : ListedMembers) (before : List ℕ) (p : ClauseMember) → SameNames l.names before → SameNames (after_member s l p).names ((member_name p).id ∷ before)
 same-more s l before (Item d i) same id = rw (is_in-insert_key id (item_name i.stream i.window).id l.names, same id)
 same-more s l before (Private n) same id = rw (is_in-insert_key id n.id l.names, same id)
 
-listed-from : (f : Found) (s : Scope) (l : ListedParts) (before : List ℕ) (ps : List ClausePart) → SameNames l.names before → noted f (listed_notes s l ps) ≡ noted f (parts_notes s before ps)
+listed-from : (f : Found) (s : Scope) (l : ListedMembers) (before : List ℕ) (ps : List ClauseMember) → SameNames l.names before → noted f (listed_notes s l ps) ≡ noted f (members_notes s before ps)
 listed-from f s l before [] same = refl
 listed-from f s l before (p ∷ ps) same =
-    let rest = listed_notes s (after_part s l p) ps in
-    noted-append f (part_notes s l.names p) rest
-    ∙ ap (λ (g : Found). noted g rest) (part-same f s l.names before same p)
-    ∙ listed-from (noted f (part_notes s before p)) s (after_part s l p) ((part_name p).id ∷ before) ps (same-more s l before p same)
-    ∙ sym (noted-append f (part_notes s before p) (parts_notes s ((part_name p).id ∷ before) ps))
+    let rest = listed_notes s (after_member s l p) ps in
+    noted-append f (member_notes s l.names p) rest
+    ∙ ap (λ (g : Found). noted g rest) (member-same f s l.names before same p)
+    ∙ listed-from (noted f (member_notes s before p)) s (after_member s l p) ((member_name p).id ∷ before) ps (same-more s l before p same)
+    ∙ sym (noted-append f (member_notes s before p) (members_notes s ((member_name p).id ∷ before) ps))
 
--- what is found of parts, by the names that are listed before each
-pub listed_notes-all : (f : Found) (s : Scope) (ps : List ClausePart) → noted f (listed_notes s none_listed ps) ≡ noted f (parts_notes s [] ps)
+-- what is found of members, by the names that are listed before each
+pub listed_notes-all : (f : Found) (s : Scope) (ps : List ClauseMember) → noted f (listed_notes s none_listed ps) ≡ noted f (members_notes s [] ps)
 listed_notes-all f s ps = listed-from f s none_listed [] ps (λ id. refl)
 
 inside-named : (e : Option Entity) (item : ℕ) (d : Direction) (j : Option tree.JoinTree) →
@@ -118,57 +118,57 @@ pub after_names-append : (s : Scope) (is more : List ItemName) → after_names s
 after_names-append s [] more = refl
 after_names-append s (i ∷ is) more = after_names-append (declare (flagged i.unsigned s) i.id i.entity) is more
 
-with_items-more : (s inner : Scope) (l : ListedParts) (d : Direction) (i : tree.ClauseItemTree) (ps : List ClausePart) →
-    with_items s (after_names inner (after_part s l (Item d i)).items) (length (after_part s l (Item d i)).items) ps
+with_items-more : (s inner : Scope) (l : ListedMembers) (d : Direction) (i : tree.ClauseItemTree) (ps : List ClauseMember) →
+    with_items s (after_names inner (after_member s l (Item d i)).items) (length (after_member s l (Item d i)).items) ps
     ≡ with_items s (after_names inner l.items) (length l.items) (Item d i ∷ ps)
 with_items-more s inner l d i ps =
     let id = (item_name i.stream i.window).id in
     rw (after_names-append, length-append, add-one, inside-named (entity_of (lookup s.entries id)) (length l.items) d i.window)
 
-items-from : (s inner : Scope) (l : ListedParts) (ps : List ClausePart) →
-    after_names inner (after_parts s l ps).items ≡ with_items s (after_names inner l.items) (length l.items) ps
+items-from : (s inner : Scope) (l : ListedMembers) (ps : List ClauseMember) →
+    after_names inner (after_members s l ps).items ≡ with_items s (after_names inner l.items) (length l.items) ps
 items-from s inner l [] = refl
-items-from s inner l (Item d i ∷ ps) = items-from s inner (after_part s l (Item d i)) ps ∙ with_items-more s inner l d i ps
-items-from s inner l (Private n ∷ ps) = items-from s inner (after_part s l (Private n)) ps
+items-from s inner l (Item d i ∷ ps) = items-from s inner (after_member s l (Item d i)) ps ∙ with_items-more s inner l d i ps
+items-from s inner l (Private n ∷ ps) = items-from s inner (after_member s l (Private n)) ps
 
 -- the scope with the names of the items
-pub items-all : (s inner : Scope) (ps : List ClausePart) → after_names inner (after_parts s none_listed ps).items ≡ with_items s inner 0 ps
+pub items-all : (s inner : Scope) (ps : List ClauseMember) → after_names inner (after_members s none_listed ps).items ≡ with_items s inner 0 ps
 items-all s inner ps = items-from s inner none_listed ps
 
 pub with_slots-append : (xs ys slots : List ℕ) → with_slots (xs ++ ys) slots ≡ with_slots ys (with_slots xs slots)
 with_slots-append [] ys slots = refl
 with_slots-append (x ∷ xs) ys slots = with_slots-append xs ys (with_slot x slots)
 
-slots-from : (s : Scope) (l : ListedParts) (ps : List ClausePart) → (after_parts s l ps).slots ≡ with_slots (slots_named s.entries (private_ids ps)) l.slots
+slots-from : (s : Scope) (l : ListedMembers) (ps : List ClauseMember) → (after_members s l ps).slots ≡ with_slots (slots_named s.entries (private_ids ps)) l.slots
 slots-from s l [] = refl
-slots-from s l (Item d i ∷ ps) = slots-from s (after_part s l (Item d i)) ps
+slots-from s l (Item d i ∷ ps) = slots-from s (after_member s l (Item d i)) ps
 slots-from s l (Private n ∷ ps) =
-    slots-from s (after_part s l (Private n)) ps
+    slots-from s (after_member s l (Private n)) ps
     ∙ sym (with_slots-append (control_slots (entity_of (lookup s.entries n.id))) (slots_named s.entries (private_ids ps)) l.slots)
 
 -- the captured scalars that `firstprivate` gave
-pub slots-all : (s : Scope) (ps : List ClausePart) → (after_parts s none_listed ps).slots ≡ with_slots (slots_named s.entries (private_ids ps)) []
+pub slots-all : (s : Scope) (ps : List ClauseMember) → (after_members s none_listed ps).slots ≡ with_slots (slots_named s.entries (private_ids ps)) []
 slots-all s ps = slots-from s none_listed ps
 
-count-from : (s : Scope) (l : ListedParts) (ps : List ClausePart) → length (after_parts s l ps).items ≡ length l.items + count_items ps
+count-from : (s : Scope) (l : ListedMembers) (ps : List ClauseMember) → length (after_members s l ps).items ≡ length l.items + count_items ps
 count-from s l [] = omega arith
-count-from s l (Item d i ∷ ps) = simp length-append at (count-from s (after_part s l (Item d i)) ps) ∙ omega arith
-count-from s l (Private n ∷ ps) = count-from s (after_part s l (Private n)) ps
+count-from s l (Item d i ∷ ps) = simp length-append at (count-from s (after_member s l (Item d i)) ps) ∙ omega arith
+count-from s l (Private n ∷ ps) = count-from s (after_member s l (Private n)) ps
 
 -- how many the items are
-pub count-all : (s : Scope) (ps : List ClausePart) → length (after_parts s none_listed ps).items ≡ count_items ps
+pub count-all : (s : Scope) (ps : List ClauseMember) → length (after_members s none_listed ps).items ≡ count_items ps
 count-all s ps = omega (arith, count-from s none_listed ps)
 
--- the parts of two clauses, one after the other
-pub after_parts-append : (s : Scope) (l : ListedParts) (ps qs : List ClausePart) → after_parts s l (ps ++ qs) ≡ after_parts s (after_parts s l ps) qs
-after_parts-append s l [] qs = refl
-after_parts-append s l (p ∷ ps) qs = after_parts-append s (after_part s l p) ps qs
+-- the members of two clauses, one after the other
+pub after_members-append : (s : Scope) (l : ListedMembers) (ps qs : List ClauseMember) → after_members s l (ps ++ qs) ≡ after_members s (after_members s l ps) qs
+after_members-append s l [] qs = refl
+after_members-append s l (p ∷ ps) qs = after_members-append s (after_member s l p) ps qs
 
-pub listed_notes-append : (s : Scope) (l : ListedParts) (ps qs : List ClausePart) →
-    listed_notes s l (ps ++ qs) ≡ listed_notes s l ps ++ listed_notes s (after_parts s l ps) qs
+pub listed_notes-append : (s : Scope) (l : ListedMembers) (ps qs : List ClauseMember) →
+    listed_notes s l (ps ++ qs) ≡ listed_notes s l ps ++ listed_notes s (after_members s l ps) qs
 listed_notes-append s l [] qs = refl
-listed_notes-append s l (p ∷ ps) qs = rw (listed_notes-append s (after_part s l p) ps qs, append_assoc)
+listed_notes-append s l (p ∷ ps) qs = rw (listed_notes-append s (after_member s l p) ps qs, append_assoc)
 
 pub ruleset listing = (listed_notes-all)
 
-pub ruleset joined_parts = (after_parts-append, listed_notes-append)
+pub ruleset joined_members = (after_members-append, listed_notes-append)

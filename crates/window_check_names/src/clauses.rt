@@ -1,19 +1,19 @@
 //! The clauses of a task.
 
 ghost use Rattle.std.specs.Prelude.{◌≡◌, ◌+◌, ◌≤◌, ◌∷◌, [], OnOk, IfOk, length, map, option_map};
-ghost use Rattle.os_ast.specs.Notes.Clauses.{parts_notes, part_notes, window_notes, shape_of};
+ghost use Rattle.os_ast.specs.Notes.Clauses.{members_notes, member_notes, window_notes, shape_of};
 ghost use Rattle.os_ast.specs.Notes.Expressions.{index_notes};
 ghost use Rattle.os_ast.specs.Notes.Kinds.{Used};
-ghost use Rattle.os_ast.specs.ClauseParts.{Item, Private, parts, clause_parts};
+ghost use Rattle.os_ast.specs.ClauseMembers.{Item, Private, members, clause_members};
 ghost use Rattle.os_ast.specs.Views.{clause_tree, clause_kind_tree, clause_item_tree, join_tree, index_tree, target_tree};
 ghost use Rattle.os_ast.specs.declared.names.Use.TheVariants as usage;
 ghost use Rattle.window_check_names.specs.Findings.{noted};
-ghost use Rattle.window_check_names.specs.Parts.{none_listed, after_part, after_parts, listed_notes};
+ghost use Rattle.window_check_names.specs.Members.{none_listed, after_member, after_members, listed_notes};
 ghost use Rattle.window_check_laws.specs.Room.{room_end};
 
 use crate::expressions::{indexed, place};
 use crate::found::Found;
-use crate::parts::{Listed, item_name};
+use crate::members::{Listed, item_name};
 use crate::scopes::Scopes;
 use crate::uses::used;
 use os_ast::{Clause, ClauseItem, ClauseKind, Direction, Index, Join, Name, Role, Shape, Use};
@@ -67,8 +67,8 @@ fn item(
     item: &ClauseItem,
 ) -> Result<(), Memory>
     requires { length listed.old.items ≤ room_end }
-    ensures found { OnOk result (found.new ≡ noted found.old (part_notes scopes.now listed.old.names (Item direction (clause_item_tree item.now)))) }
-    ensures listed { OnOk result (listed.new ≡ after_part scopes.now listed.old (Item direction (clause_item_tree item.now))) }
+    ensures found { OnOk result (found.new ≡ noted found.old (member_notes scopes.now listed.old.names (Item direction (clause_item_tree item.now)))) }
+    ensures listed { OnOk result (listed.new ≡ after_member scopes.now listed.old (Item direction (clause_item_tree item.now))) }
 {
     place(scopes, found, Role::Flow(direction), &item.stream)?;
     window(scopes, found, listed, item)?;
@@ -85,7 +85,7 @@ fn items(
 ) -> Result<(), Memory>
     requires { length listed.old.items + length items.now ≤ room_end }
     ensures found { OnOk result (found.new ≡ noted found.old (listed_notes scopes.now listed.old (map (Item direction) (map clause_item_tree items.now)))) }
-    ensures listed { OnOk result (listed.new ≡ after_parts scopes.now listed.old (map (Item direction) (map clause_item_tree items.now))) }
+    ensures listed { OnOk result (listed.new ≡ after_members scopes.now listed.old (map (Item direction) (map clause_item_tree items.now))) }
 {
     for next in items.as_slice() {
         item(scopes, found, listed, direction, next)?;
@@ -100,8 +100,8 @@ fn private(
     listed: &mut Listed,
     name: Name,
 ) -> Result<(), Memory>
-    ensures found { OnOk result (found.new ≡ noted found.old (part_notes scopes.now listed.old.names (Private name))) }
-    ensures listed { OnOk result (listed.new ≡ after_part scopes.now listed.old (Private name)) }
+    ensures found { OnOk result (found.new ≡ noted found.old (member_notes scopes.now listed.old.names (Private name))) }
+    ensures listed { OnOk result (listed.new ≡ after_member scopes.now listed.old (Private name)) }
 {
     found.add_violation(name.mark, listed.again(name))?;
     used(scopes, found, name, Use::Private)?;
@@ -117,7 +117,7 @@ fn privates(
     names: &List<Name>,
 ) -> Result<(), Memory>
     ensures found { OnOk result (found.new ≡ noted found.old (listed_notes scopes.now listed.old (map Private names.now))) }
-    ensures listed { OnOk result (listed.new ≡ after_parts scopes.now listed.old (map Private names.now)) }
+    ensures listed { OnOk result (listed.new ≡ after_members scopes.now listed.old (map Private names.now)) }
 {
     for name in names.as_slice() {
         private(scopes, found, listed, *name)?;
@@ -132,9 +132,9 @@ fn clause(
     listed: &mut Listed,
     clause: &Clause,
 ) -> Result<(), Memory>
-    requires { length listed.old.items + length (clause_parts (clause_kind_tree clause.now.kind)) ≤ room_end }
-    ensures found { OnOk result (found.new ≡ noted found.old (listed_notes scopes.now listed.old (clause_parts (clause_kind_tree clause.now.kind)))) }
-    ensures listed { OnOk result (listed.new ≡ after_parts scopes.now listed.old (clause_parts (clause_kind_tree clause.now.kind))) }
+    requires { length listed.old.items + length (clause_members (clause_kind_tree clause.now.kind)) ≤ room_end }
+    ensures found { OnOk result (found.new ≡ noted found.old (listed_notes scopes.now listed.old (clause_members (clause_kind_tree clause.now.kind)))) }
+    ensures listed { OnOk result (listed.new ≡ after_members scopes.now listed.old (clause_members (clause_kind_tree clause.now.kind))) }
 {
     match &clause.kind {
         ClauseKind::Input(list) => items(scopes, found, listed, Direction::Reads, list),
@@ -151,9 +151,9 @@ pub fn clauses(
     found: &mut Found,
     clauses: &List<Clause>,
 ) -> Result<Listed, Memory>
-    requires { length (parts (map clause_tree clauses.now)) ≤ room_end }
-    ensures found { OnOk result (found.new ≡ noted found.old (parts_notes scopes.now [] (parts (map clause_tree clauses.now)))) }
-    ensures listed { IfOk result (λ listed. listed ≡ after_parts scopes.now none_listed (parts (map clause_tree clauses.now))) }
+    requires { length (members (map clause_tree clauses.now)) ≤ room_end }
+    ensures found { OnOk result (found.new ≡ noted found.old (members_notes scopes.now [] (members (map clause_tree clauses.now)))) }
+    ensures listed { IfOk result (λ listed. listed ≡ after_members scopes.now none_listed (members (map clause_tree clauses.now))) }
 {
     let mut listed = Listed::new(alloc);
     for next in clauses.as_slice() {

@@ -7,7 +7,7 @@
 //!
 //! `used` and `size_name` find of one name, by what is in scope, what stands beside the trees: which rules it violates,
 //! and what it means. `expressions` and `clauses` do so with all names of an expression, a change or the clauses of a
-//! task, which leave in scope what there was; `parts` has what the clauses list.
+//! task, which leave in scope what there was; `members` has what the clauses list.
 #![tactic(auto)]
 
 pub mod broken_rules;
@@ -17,7 +17,7 @@ mod declared;
 pub mod expressions;
 mod found;
 mod meanings;
-pub mod parts;
+pub mod members;
 mod scopes;
 mod sizes;
 mod uses;

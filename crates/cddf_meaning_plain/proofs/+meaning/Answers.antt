@@ -2,7 +2,7 @@ use Rattle.std.proofs.Common.{◌≡◌, ◌<◌, Bool, map, option_map, pos, ar
 use Rattle.std.specs.List.{take-map}
 use Rattle.std.specs.Option.{option_copied}
 use Rattle.os_ast.specs.Trees as ast
-use Rattle.os_ast.specs.ClauseParts as clauses
+use Rattle.os_ast.specs.ClauseMembers as clauses
 use Rattle.os_ast.specs.declared.pragma.ClauseKind.{ClauseKind}
 use Rattle.cddf_meaning.specs.Answers.{Answer, Left, left}
 use Rattle.cddf_meaning.specs.File.{type_in}
@@ -290,6 +290,6 @@ pub streams::clause_claims-returns-in-Firstprivate-clause-adds : goal.streams::c
 streams::clause_claims-returns-in-Firstprivate-clause-adds t c =
     let file = file_of (map item_tree c.args.file.now) in
     let P : ClauseKind → Type 0 = λ k.
-    behind c.args.claims.now (items_claims file (clauses.clause_parts (clause_kind_tree k)) c.args.state.now c.args.turns.now)
+    behind c.args.claims.now (items_claims file (clauses.clause_members (clause_kind_tree k)) c.args.state.now c.args.turns.now)
     ≡ Ok (left c.args.claims.now c.args.turns.now) in
     subst P (sym c.in-Firstprivate.is) (privates-claim file c.in-Firstprivate.field-0 c.args.state.now c.args.turns.now c.args.claims.now)

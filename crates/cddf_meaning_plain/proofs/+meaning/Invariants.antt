@@ -9,7 +9,7 @@ use Rattle.cddf_meaning_plain.specs.Loops.{repeated}
 use Rattle.cddf_meaning_plain_tasks.specs.Arounds.{around_of}
 use Rattle.cddf_meaning.specs.Value.{chained, values}
 use Rattle.cddf_meaning_plain.specs.Weights.{args_weight, change_weight, clause_weight, declarator_weight, expr_weight, file_weight, index_weight, item_weight, kind_weight, links_weight, start_weight, step_weight, stmt_weight, stmts_weight, target_weight, value_weight, weights}
-use Rattle.os_ast.specs.ClauseParts as clause
+use Rattle.os_ast.specs.ClauseMembers as clause
 use Rattle.os_ast.specs.Unsigned.{is_unsigned}
 use Rattle.os_ast.specs.Views.{args_tree, change_tree, clause_item_tree, clause_kind_tree, clause_tree, declarator_tree, expr_tree, item_tree, join_tree, links_tree, start_tree, stmt_tree, stmts_tree, target_tree}
 use Rattle.os_ast.specs.declared.program.Item.{Item}
@@ -159,6 +159,6 @@ invariant-streams::add_claims-loop-item l =
 abbrev pub invariant-streams::all_claims-loop-clause : goal.invariant-streams::all_claims-loop-clause
 invariant-streams::all_claims-loop-clause l =
     let file = file_of (map item_tree l.file) in
-    (behind l.claims (items_claims file (clause.parts (map clause_tree (drop l.clause-index l.clauses))) l.state l.turns)
-    ≡ items_claims file (clause.parts (map clause_tree l.clauses)) l.state l.initial.turns)
+    (behind l.claims (items_claims file (clause.members (map clause_tree (drop l.clause-index l.clauses))) l.state l.turns)
+    ≡ items_claims file (clause.members (map clause_tree l.clauses)) l.state l.initial.turns)
     × (l.turns ≤ l.initial.turns)

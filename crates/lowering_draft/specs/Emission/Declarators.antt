@@ -4,7 +4,7 @@ use Rattle.lowering_draft.specs.Draft.{with_instr, with_instrs}
 use Rattle.lowering_draft.specs.Emission.Changes.{change_code}
 use Rattle.lowering_draft.specs.Emission.Expressions.{Emission, expr_code}
 use Rattle.os_ast.specs.FreeNames.{expr_names}
-use Rattle.os_ast.specs.ClauseParts.{is_in}
+use Rattle.os_ast.specs.ClauseMembers.{is_in}
 use Rattle.os_ast.specs.Trees as tree
 use Rattle.os_ast.specs.declared.names.Resolved.{Resolved}
 use Rattle.os_ast.specs.declared.names.What.{What}

@@ -9,7 +9,7 @@ use Rattle.lowering_draft.specs.Emission.Tasks.{items_code, tick_code}
 use Rattle.lowering_draft.specs.declared.draft.Draft.{Draft}
 use Rattle.lowering_draft.specs.declared.draft.Label.{Label}
 use Rattle.lowering_draft.specs.declared.exits.Exits.{Exits}
-use Rattle.os_ast.specs.ClauseParts.{parts}
+use Rattle.os_ast.specs.ClauseMembers.{members}
 use Rattle.os_ast.specs.Trees as tree
 use Rattle.os_ast.specs.declared.names.Resolved.{Resolved}
 use Rattle.os_code.specs.declared.instr.Instr.TheVariants.{Drop, Jump, Turn}
@@ -79,7 +79,7 @@ simple_code tells x next (tree.StmtTree.Call f args) draft =
 simple_code tells x next (tree.Break m) draft = with_instr draft (Jump x.broke.number)
 simple_code tells x next (tree.Continue m) draft = with_instr draft (Jump x.continued.number)
 simple_code tells x next (tree.Return m e) draft = with_instr (expr_code tells e draft) x.leaves
-simple_code tells x next (tree.Task m cs a) draft = jump_on next (with_spawn (items_code tells (parts cs) draft))
+simple_code tells x next (tree.Task m cs a) draft = jump_on next (with_spawn (items_code tells (members cs) draft))
 simple_code tells x next (tree.Tick m t arrow e) draft = jump_on next (tick_code tells t arrow.line e draft)
 simple_code tells x next _ draft = jump_on next draft
 

@@ -2,7 +2,7 @@
 use Rattle.std.specs.Prelude.{ℕ, List}
 use Rattle.lowering_draft.specs.Emission.Units.{with_task}
 use Rattle.lowering_draft.specs.declared.units.Units.{Units}
-use Rattle.os_ast.specs.ClauseParts.{parts}
+use Rattle.os_ast.specs.ClauseMembers.{members}
 use Rattle.os_ast.specs.Trees as tree
 use Rattle.os_ast.specs.declared.names.Resolved.{Resolved}
 
@@ -13,7 +13,7 @@ abbrev mutual
   with_stmt_tasks tells captured (tree.IfElse c a b) made = with_stmt_tasks tells captured b (with_stmt_tasks tells captured a made)
   with_stmt_tasks tells captured (tree.While c a) made = with_stmt_tasks tells captured a made
   with_stmt_tasks tells captured (tree.For start test step a) made = with_stmt_tasks tells captured a made
-  with_stmt_tasks tells captured (tree.Task m cs a) made = with_task tells captured (record { mark = m; parts = parts cs; body = a }) made
+  with_stmt_tasks tells captured (tree.Task m cs a) made = with_task tells captured (record { mark = m; members = members cs; body = a }) made
   with_stmt_tasks tells captured s made = made
 
   pub with_block_tasks : (ℕ → Resolved) → (captured : List (List ℕ)) → tree.Stmts → Units → Units

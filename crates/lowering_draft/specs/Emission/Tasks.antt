@@ -2,7 +2,7 @@
 use Rattle.std.specs.Prelude.{ℕ, List, [], ◌∷◌, Option, Some, None, pos}
 use Rattle.lowering_draft.specs.Draft.{with_instr, with_instrs}
 use Rattle.lowering_draft.specs.Emission.Expressions.{Emission, expr_code}
-use Rattle.os_ast.specs.ClauseParts.{ClausePart, Item, Private, target_name}
+use Rattle.os_ast.specs.ClauseMembers.{ClauseMember, Item, Private, target_name}
 use Rattle.os_ast.specs.Trees as tree
 use Rattle.os_ast.specs.declared.names.Direction.{Direction}
 use Rattle.os_ast.specs.declared.names.Resolved.{Resolved}
@@ -29,7 +29,7 @@ join_code tells d (Some j) draft = burst_code tells d (tells j.name.mark.place).
 abbrev pub item_code : (ℕ → Resolved) → Direction → tree.ClauseItemTree → Emission
 item_code tells d i draft = join_code tells d i.window (stream_code tells i.stream draft)
 
-abbrev pub items_code : (ℕ → Resolved) → List ClausePart → Emission
+abbrev pub items_code : (ℕ → Resolved) → List ClauseMember → Emission
 items_code tells [] draft = draft
 items_code tells (Private n ∷ ps) draft = items_code tells ps draft
 items_code tells (Item d i ∷ ps) draft = items_code tells ps (item_code tells d i draft)

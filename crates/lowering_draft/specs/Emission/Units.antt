@@ -9,7 +9,7 @@ use Rattle.lowering_draft.specs.declared.exits.Exits.{Exits}
 use Rattle.lowering_draft.specs.declared.units.Units.{Units}
 use Rattle.os_ast.specs.Names.{main_id}
 use Rattle.os_ast.specs.Notes.Programs.{param_list}
-use Rattle.os_ast.specs.ClauseParts.{parts}
+use Rattle.os_ast.specs.ClauseMembers.{members}
 use Rattle.os_ast.specs.Trees as tree
 use Rattle.os_ast.specs.Views.{clause_tree, stmt_tree}
 use Rattle.os_ast.specs.declared.names.Owner.TheVariants as owner
@@ -25,7 +25,7 @@ use Rattle.window_check_laws.specs.Sums.{stmt_slots, stmts_slots}
 
 -- the tree of a task's pragma
 abbrev pub task_tree : TaskSite → TaskTree
-task_tree t = record { mark = t.mark; parts = parts (map clause_tree t.clauses); body = stmt_tree t.body }
+task_tree t = record { mark = t.mark; members = members (map clause_tree t.clauses); body = stmt_tree t.body }
 
 -- `break` and `continue` outside loops go to the end of the body.
 abbrev pub exits_of : (end : Label) → (leaves : Instr) → Exits
@@ -90,7 +90,7 @@ with_site site made = record made { sites = made.sites ++ site ∷ [] }
 -- a task that captures these slots of `main`
 abbrev pub with_capturing : (ℕ → Resolved) → (slots : List ℕ) → TaskTree → Units → Units
 with_capturing tells slots t made =
-    with_site (record { unit = length made.units; line = t.mark.line; captured = slots; items = site_items tells t.parts })
+    with_site (record { unit = length made.units; line = t.mark.line; captured = slots; items = site_items tells t.members })
     (with_unit (task_code tells t.body) (length slots) (capped (length slots + stmt_slots owner.OfTask (size_by tells) t.body)) made)
 
 abbrev pub with_task : (ℕ → Resolved) → (captured : List (List ℕ)) → TaskTree → Units → Units

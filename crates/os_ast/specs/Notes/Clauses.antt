@@ -5,7 +5,7 @@ use Rattle.os_ast.specs.Captured.{captured, slots_of}
 use Rattle.os_ast.specs.Names.{Scope, is_main_body, lookup, entity_of, flag_of, flagged, declare, enter, in_unit}
 use Rattle.os_ast.specs.Notes.Expressions.{place_notes, index_notes}
 use Rattle.os_ast.specs.Notes.Kinds.{Note, Used, Task, Listed}
-use Rattle.os_ast.specs.ClauseParts.{ClausePart, Item, Private, target_name, item_name, part_name, count_items}
+use Rattle.os_ast.specs.ClauseMembers.{ClauseMember, Item, Private, target_name, item_name, member_name, count_items}
 use Rattle.os_ast.specs.Trees as tree
 use Rattle.os_ast.specs.declared.expr.Mark.{Mark}
 use Rattle.os_ast.specs.declared.names.Owner.{Owner}
@@ -26,15 +26,15 @@ abbrev pub window_notes : Scope → List ℕ → tree.TargetTree → Option tree
 window_notes s before stream None = Listed before (target_name stream) ∷ []
 window_notes s before stream (Some j) = Listed before j.name ∷ Used s j.name (usage.Joined (shape_of j.burst)) ∷ index_notes s j.burst
 
--- a part, behind parts of these names
-abbrev pub part_notes : Scope → List ℕ → ClausePart → List Note
-part_notes s before (Item d i) = place_notes s (role.Flow d) i.stream ++ window_notes s before i.stream i.window
-part_notes s before (Private n) = Listed before n ∷ Used s n usage.Private ∷ []
+-- a member, behind members of these names
+abbrev pub member_notes : Scope → List ℕ → ClauseMember → List Note
+member_notes s before (Item d i) = place_notes s (role.Flow d) i.stream ++ window_notes s before i.stream i.window
+member_notes s before (Private n) = Listed before n ∷ Used s n usage.Private ∷ []
 
 -- Expressions of clauses belong to what is round the task.
-abbrev pub parts_notes : Scope → List ℕ → List ClausePart → List Note
-parts_notes s before [] = []
-parts_notes s before (p ∷ ps) = part_notes s before p ++ parts_notes s ((part_name p).id ∷ before) ps
+abbrev pub members_notes : Scope → List ℕ → List ClauseMember → List Note
+members_notes s before [] = []
+members_notes s before (p ∷ ps) = member_notes s before p ++ members_notes s ((member_name p).id ∷ before) ps
 
 -- what an item's name is in the body, by its arrow and by what the name is round the task
 abbrev pub named_entity : ℕ → Direction → Option tree.JoinTree → Option Entity → Entity
@@ -50,7 +50,7 @@ abbrev pub item_flag : Scope → tree.ClauseItemTree → Bool
 item_flag s i = flag_of (lookup s.entries (item_name i.stream i.window).id)
 
 -- the scope of the clauses, round the body; the items are looked up in the scope that is round the task
-abbrev pub with_items : Scope → Scope → ℕ → List ClausePart → Scope
+abbrev pub with_items : Scope → Scope → ℕ → List ClauseMember → Scope
 with_items s inner item [] = inner
 with_items s inner item (Item d i ∷ ps) =
     with_items s (declare (flagged (item_flag s i) inner) (item_name i.stream i.window).id (item_entity s item d i)) (suc item) ps
@@ -65,9 +65,9 @@ abbrev pub captured_in : Owner → List ℕ → List ℕ
 captured_in o slots = if is_main_body o then slots else []
 
 -- the scope in which a task's body stands
-abbrev pub in_task_body : Scope → List ClausePart → tree.StmtTree → Scope
+abbrev pub in_task_body : Scope → List ClauseMember → tree.StmtTree → Scope
 in_task_body s ps body = with_items s (in_task s (captured_in s.owner (slots_of (captured s.entries ps body)))) 0 ps
 
 -- the clauses of a task, and its start: the order of what stands in a program says nothing but for names
-abbrev pub clauses_notes : Scope → Mark → List ClausePart → tree.StmtTree → List Note
-clauses_notes s m ps body = parts_notes s [] ps ++ Task s m (count_items ps) (captured s.entries ps body) ∷ []
+abbrev pub clauses_notes : Scope → Mark → List ClauseMember → tree.StmtTree → List Note
+clauses_notes s m ps body = members_notes s [] ps ++ Task s m (count_items ps) (captured s.entries ps body) ∷ []

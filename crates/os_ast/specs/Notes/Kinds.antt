@@ -28,7 +28,7 @@ pub data Note : Type 0 where
   Pragma : Scope → Mark → Note
   -- the start of a task, with how many items it has, and the scalars that it captures
   Task : Scope → Mark → ℕ → List Scalar → Note
-  -- the name of a part of a task's clauses, behind parts of these names
+  -- the name of a member of a task's clauses, behind members of these names
   Listed : List ℕ → Name → Note
 
 -- its token

@@ -5,7 +5,7 @@ use Rattle.os_ast.specs.Notes.Clauses.{in_task_body, clauses_notes}
 use Rattle.os_ast.specs.Notes.Declarators.{after_declarators, declarators_notes, after_start, start_notes}
 use Rattle.os_ast.specs.Notes.Expressions.{count_args, expr_notes, place_notes, args_notes, value_notes, change_notes, step_notes}
 use Rattle.os_ast.specs.Notes.Kinds.{Note, Used, Left, Returned, Pragma}
-use Rattle.os_ast.specs.ClauseParts.{parts}
+use Rattle.os_ast.specs.ClauseMembers.{members}
 use Rattle.os_ast.specs.Trees as tree
 use Rattle.os_ast.specs.declared.names.Direction.TheVariants as direction
 use Rattle.os_ast.specs.declared.names.Role.TheVariants as role
@@ -20,7 +20,7 @@ abbrev mutual
   after_stmt s (tree.IfElse c a b) = after_stmt (after_stmt s a) b
   after_stmt s (tree.While c a) = behind s (after_stmt (in_loop s) a)
   after_stmt s (tree.For start test step a) = leave s (after_stmt (in_loop (after_start (enter s) start)) a)
-  after_stmt s (tree.Task m cs a) = after_unit s (after_stmt (in_task_body s (parts cs) a) a)
+  after_stmt s (tree.Task m cs a) = after_unit s (after_stmt (in_task_body s (members cs) a) a)
   after_stmt s _ = s
 
   pub after_stmts : Scope → tree.Stmts → Scope
@@ -42,7 +42,7 @@ abbrev mutual
   stmt_notes s (tree.Break m) = Left s m ∷ []
   stmt_notes s (tree.Continue m) = Left s m ∷ []
   stmt_notes s (tree.Return m e) = Returned s m ∷ expr_notes s e
-  stmt_notes s (tree.Task m cs a) = clauses_notes s m (parts cs) a ++ stmt_notes (in_task_body s (parts cs) a) a
+  stmt_notes s (tree.Task m cs a) = clauses_notes s m (members cs) a ++ stmt_notes (in_task_body s (members cs) a) a
   stmt_notes s (tree.Tick m t arrow e) = Pragma s m ∷ place_notes s (role.Flow direction.Reads) t ++ expr_notes s e
   stmt_notes s (tree.Taskwait m) = Pragma s m ∷ []
 

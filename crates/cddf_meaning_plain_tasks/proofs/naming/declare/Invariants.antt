@@ -1,5 +1,5 @@
 use Rattle.std.proofs.Common.{◌≡◌, drop, map}
-use Rattle.os_ast.specs.ClauseParts.{is_in}
+use Rattle.os_ast.specs.ClauseMembers.{is_in}
 use Rattle.os_ast.specs.FreeNames.{declared_ids}
 use Rattle.os_ast.specs.Views.{declarator_tree}
 use Rattle.cddf_meaning_plain_tasks.proofs.naming.declare.Given as goal

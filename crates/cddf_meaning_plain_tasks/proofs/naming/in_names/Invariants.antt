@@ -1,5 +1,5 @@
 use Rattle.std.proofs.Common.{◌≡◌, drop}
-use Rattle.os_ast.specs.ClauseParts.{is_in}
+use Rattle.os_ast.specs.ClauseMembers.{is_in}
 use Rattle.cddf_meaning_plain_tasks.specs.Sought.{ids_of}
 use Rattle.cddf_meaning_plain_tasks.proofs.naming.in_names.Given as goal
 

@@ -1,5 +1,5 @@
 use Rattle.std.proofs.Common.{◌≡◌, drop, map}
-use Rattle.os_ast.specs.ClauseParts.{is_in}
+use Rattle.os_ast.specs.ClauseMembers.{is_in}
 use Rattle.cddf_meaning_plain_tasks.specs.Sought.{item_names}
 use Rattle.os_ast.specs.Views.{clause_item_tree}
 use Rattle.cddf_meaning_plain_tasks.proofs.naming.name_items.Given as goal

@@ -1,7 +1,7 @@
 use Rattle.std.proofs.Common.{◌≡◌, drop, map}
 use Rattle.lowering_draft.specs.Items.{with_items}
 use Rattle.lowering_relation.specs.Names.{told_at}
-use Rattle.os_ast.specs.ClauseParts.{Item}
+use Rattle.os_ast.specs.ClauseMembers.{Item}
 use Rattle.os_ast.specs.Views.{clause_item_tree}
 use Rattle.lowering_draft.proofs.clause_items.visit_all.Given as goal
 

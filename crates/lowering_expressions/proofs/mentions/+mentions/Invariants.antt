@@ -1,6 +1,6 @@
 use Rattle.std.proofs.Common.{◌≡◌, drop}
 use Rattle.os_ast.specs.FreeNames.{args_names, links_names}
-use Rattle.os_ast.specs.ClauseParts.{is_in}
+use Rattle.os_ast.specs.ClauseMembers.{is_in}
 use Rattle.os_ast.specs.Views.{args_tree, links_tree}
 use Rattle.lowering_expressions.proofs.mentions.+mentions.Given as goal
 

@@ -5,7 +5,7 @@ use Rattle.os_ast.specs.Notes.Declarators.{after_start, start_notes}
 use Rattle.os_ast.specs.Notes.Expressions.{value_notes, step_notes}
 use Rattle.os_ast.specs.Notes.Statements.{stmt_notes}
 use Rattle.os_ast.specs.Names.{Scope, enter, in_loop}
-use Rattle.os_ast.specs.ClauseParts.{parts}
+use Rattle.os_ast.specs.ClauseMembers.{members}
 use Rattle.os_ast.specs.Views.{expr_tree, change_tree, start_tree, stmt_tree, stmts_tree, clause_tree}
 use Rattle.os_ast.specs.declared.stmt.Stmt.{the_lemmas}
 use Rattle.window_check_laws.specs.Room.{stmt_weight}
@@ -13,7 +13,7 @@ use Rattle.window_check_laws.proofs.HasRoom.{room_in_for}
 use Rattle.window_check.proofs.Restored.{returned_block, returned_for, ended_task}
 use Rattle.window_check.proofs.Steps as step
 use Rattle.window_check.proofs.Tasks.{room-named, slots-captured, body-slots, few-captured, few-slots, task-scopes, task-found}
-use Rattle.window_check_names.specs.Parts.{after_names}
+use Rattle.window_check_names.specs.Members.{after_names}
 use Rattle.window_check.specs.Statements.{in_named_task}
 use Rattle.window_check.proofs.statements.+stmts.Goals as goal
 
@@ -136,7 +136,7 @@ body-returns-clause-scopes t c =
 pub task-captured-requires : goal.task-captured-requires
 task-captured-requires t c =
     let s = c.args.scopes.now in
-    let ps = parts (map clause_tree c.args.site.now.clauses) in
+    let ps = members (map clause_tree c.args.site.now.clauses) in
     let w = stmt_weight (stmt_tree c.args.site.now.body) in (
       search (rules, the_lemmas),
       (
@@ -148,7 +148,7 @@ task-captured-requires t c =
 pub task-body-requires : goal.task-body-requires
 task-body-requires t c =
     let s = c.args.scopes.now in
-    let ps = parts (map clause_tree c.args.site.now.clauses) in
+    let ps = members (map clause_tree c.args.site.now.clauses) in
     let a = stmt_tree c.args.site.now.body in
     let l = c.in_ok-clauses.field-0 in
     let items = c.into_parts-items.result.0 in
@@ -168,7 +168,7 @@ task-body-requires t c =
 pub task-returns-clause-scopes : goal.task-returns-clause-scopes
 task-returns-clause-scopes t c =
     let s = c.args.scopes.now in
-    let ps = parts (map clause_tree c.args.site.now.clauses) in
+    let ps = members (map clause_tree c.args.site.now.clauses) in
     let a = stmt_tree c.args.site.now.body in
     let l = c.in_ok-clauses.field-0 in
     let items = c.into_parts-items.result.0 in
@@ -183,7 +183,7 @@ task-returns-clause-scopes t c =
 pub task-returns-clause-found : goal.task-returns-clause-found
 task-returns-clause-found t c =
     let s = c.args.scopes.now in
-    let ps = parts (map clause_tree c.args.site.now.clauses) in
+    let ps = members (map clause_tree c.args.site.now.clauses) in
     let a = stmt_tree c.args.site.now.body in
     let l = c.in_ok-clauses.field-0 in
     let items = c.into_parts-items.result.0 in

@@ -1,8 +1,8 @@
 use Rattle.std.proofs.Common.{◌+◌, arith, length, ap, drop, map}
-use Rattle.os_ast.specs.ClauseParts.{Item}
+use Rattle.os_ast.specs.ClauseMembers.{Item}
 use Rattle.os_ast.specs.Views.{clause_item_tree}
-use Rattle.window_check_names.specs.Parts.{ListedParts}
-use Rattle.window_check_names.proofs.Lists.{items-drop, items-part, found-part, listed-part}
+use Rattle.window_check_names.specs.Members.{ListedMembers}
+use Rattle.window_check_names.proofs.Lists.{items-drop, items-member, found-member, listed-member}
 use Rattle.window_check_names.proofs.clauses.items.Goals as goal
 
 pub loop-next-preserved : goal.loop-next-preserved
@@ -13,11 +13,11 @@ loop-next-preserved c =
     let part = Item c.args.direction (clause_item_tree c.next-item.result) in
     let rest = map (Item c.args.direction) (map clause_item_tree (drop (c.loop-next.next-index + 1) c.args.items.now)) in
     record {
-      found = found-part s c.loop-next.found c.item.new.found l c.item.new.listed part rest _ _ split c.in_ok-item.ensures.found c.in_ok-item.ensures.listed c.loop-next.invariant.found;
-      listed = listed-part s l c.item.new.listed part rest _ _ split c.in_ok-item.ensures.listed c.loop-next.invariant.listed;
+      found = found-member s c.loop-next.found c.item.new.found l c.item.new.listed part rest _ _ split c.in_ok-item.ensures.found c.in_ok-item.ensures.listed c.loop-next.invariant.found;
+      listed = listed-member s l c.item.new.listed part rest _ _ split c.in_ok-item.ensures.listed c.loop-next.invariant.listed;
       count = omega (
         arith,
-        items-part s l part,
-        ap (λ (l : ListedParts). length l.items) c.in_ok-item.ensures.listed,
+        items-member s l part,
+        ap (λ (l : ListedMembers). length l.items) c.in_ok-item.ensures.listed,
       );
     }

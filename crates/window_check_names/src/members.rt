@@ -1,10 +1,10 @@
 ghost use Rattle.std.specs.Prelude.{◌≡◌, ◌≤◌, OnOk, length, option_map};
-ghost use Rattle.os_ast.specs.ClauseParts.{Item, Private, item_name, is_in};
+ghost use Rattle.os_ast.specs.ClauseMembers.{Item, Private, item_name, is_in};
 ghost use Rattle.os_ast.specs.Rules.{when};
 ghost use Rattle.os_ast.specs.Views.{clause_item_tree, join_tree, target_tree};
 ghost use Rattle.window_check_names.specs.BrokenRules.{least_rule};
 ghost use Rattle.os_ast.specs.declared.rule.Rule.TheVariants.{ListedTwice};
-ghost use Rattle.window_check_names.specs.Parts.{none_listed, after_names, after_part};
+ghost use Rattle.window_check_names.specs.Members.{none_listed, after_names, after_member};
 ghost use Rattle.window_check_laws.specs.Room.{room_end};
 
 use crate::broken_rules::when;
@@ -43,9 +43,9 @@ pub struct Listed {
 }
 
 impl Model for Listed {
-    ghost use Rattle.window_check_names.specs.Parts.{ListedParts};
+    ghost use Rattle.window_check_names.specs.Members.{ListedMembers};
 
-    ghost Value = { ListedParts };
+    ghost Value = { ListedMembers };
 
     ghost view = { λ l. record { names = l.names.keys; items = l.items; slots = l.captured } };
 }
@@ -77,7 +77,7 @@ impl Listed {
         item: &ClauseItem,
     ) -> Result<(), Memory>
         requires { length self.old.items ≤ room_end }
-        ensures { OnOk result (self.new ≡ after_part scopes.now self.old (Item direction (clause_item_tree item.now))) }
+        ensures { OnOk result (self.new ≡ after_member scopes.now self.old (Item direction (clause_item_tree item.now))) }
     {
         let id = item_name(item).id;
         let number = self.items.len() as u32;
@@ -95,7 +95,7 @@ impl Listed {
 
     /// One more `firstprivate` name.
     pub(crate) fn add_private(&mut self, scopes: &Scopes, name: Name) -> Result<(), Memory>
-        ensures { OnOk result (self.new ≡ after_part scopes.now self.old (Private name)) }
+        ensures { OnOk result (self.new ≡ after_member scopes.now self.old (Private name)) }
     {
         self.names.insert(name.id)?;
         self.captured.add(scopes.entity(name.id))

@@ -1,6 +1,6 @@
 use Rattle.std.proofs.Common.{◌≡◌, drop}
-use Rattle.window_check_names.specs.Parts.{after_names}
-use Rattle.window_check_names.proofs.parts.declare_items.Given as goal
+use Rattle.window_check_names.specs.Members.{after_names}
+use Rattle.window_check_names.proofs.members.declare_items.Given as goal
 
 -- the scope so far, with the names of the rest
 abbrev pub invariant-loop-item : goal.invariant-loop-item
