@@ -137,6 +137,6 @@ input_full activations input_len ends stream first count is past =
 -- ---- the output
 
 -- how many positions of the output are claimed for writing
-pub claimed_by : (layout : Layout) (activations : List Activation) → IsLayoutOf layout activations → 1 < length layout.writers → get_or layout.writes 1 0 ≡ written_count activations 1
+pub claimed_by : (layout : Layout) (activations : List Activation) → IsLayoutOf layout activations → 1 < length layout.writers → get_or layout.cursors.writes 1 0 ≡ written_count activations 1
 claimed_by layout activations of two =
     ap (λ xs. get_or xs 1 0) of.of_windows.writes ∙ get_or-map-range_with_len (λ s. write_cursor s (claims_in (windows activations))) 0 (length layout.writers) 1 1 0 two (zero-add 1) ∙ ap (write_cursor 1) (claims_in-windows activations)

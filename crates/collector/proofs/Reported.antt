@@ -30,7 +30,7 @@ lines_more f k =
 
 -- the report by what the calls are given
 pub report_is : (layout : Layout) (activations : List Activation) → IsLayoutOf layout activations → 1 < length layout.writers → (input_len : ℕ) (ends : Ends) (control : ControlEnd) (count claimed : ℕ)
-    → count ≡ length (written ends.output) → claimed ≡ get_or layout.writes 1 0
+    → count ≡ length (written ends.output) → claimed ≡ get_or layout.cursors.writes 1 0
     → report activations input_len ends control ≡ activation_lines activations input_len ends.ends (frame_count layout) ++ (control_line control ++ (output_line count claimed ++ []))
 report_is layout activations of two input_len ends control count claimed count_is claimed_is =
     let lines = activation_lines activations input_len ends.ends (frame_count layout) in

@@ -46,7 +46,7 @@ pub fn report_lines<S: Sink>(
     activation_lines(layout, ends, &mut buffer, sink)?;
     buffer.control(sink, control)?;
     let count = written_length(ends.output.as_slice());
-    buffer.output(sink, count as u64, layout.writes.as_slice()[1])?;
+    buffer.output(sink, count as u64, layout.cursors.writes.as_slice()[1])?;
     buffer.flush(sink)
 }
 

@@ -5,14 +5,15 @@ use Rattle.std.proofs.lemmas.List.Elements.{All-map, All-tail}
 use Rattle.flow_core_laws.specs.declared.activation.Activation.{Activation}
 use Rattle.flow_core_laws.specs.declared.claim.Claim.{Claim}
 use Rattle.flow_core_laws.specs.Window.{Window, claims_of, windows}
+use Rattle.stream_match_layouts.specs.declared.cursors.Cursors.{Cursors}
 use Rattle.stream_match_layouts.specs.declared.layout.Layout.{Layout}
 use Rattle.stream_match_layouts.specs.declared.span.Span.{Span}
-use Rattle.stream_match_layouts.specs.Adding.{HasRoom, with_claim}
+use Rattle.stream_match_layouts.specs.Adding.{with_claim}
+use Rattle.stream_match_layouts.specs.Cursors.{span_by}
 use Rattle.stream_match_layouts.specs.Lawful.{AreLawful, IsLawfulClaim}
 use Rattle.stream_match_layouts.specs.Layout.{IsLayoutOf, TakesMore, span_of}
 use Rattle.stream_match_layouts.proofs.Bounds.{length-claims-le}
 use Rattle.stream_match_layouts.proofs.Windows.{claims_in-windows}
-use Rattle.epoch_run_shares.specs.Cursors.{HasCursors, first_of}
 use Rattle.epoch_run.specs.NextSpans.{ComeBehind, FitBehind, joined, with_next, with_writer, with_writers}
 use Rattle.epoch_run.specs.declared.next_spans.NextSpans.{NextSpans}
 
@@ -41,38 +42,25 @@ length-joined layout next = length-with_writers layout.writers (length layout.sp
 
 -- ---- no activation
 
-pub joined-none : (layout : Layout) (next : NextSpans) → next.spans ≡ [] → next.starts ≡ [] → next.cursors.reads ≡ layout.reads → next.cursors.writes ≡ layout.writes → joined layout next ≡ layout
-joined-none layout next spans starts reads writes =
-    let l : List Span → List ℕ → List (List ℕ) → List ℕ → List ℕ → Layout = λ xs ys ws rs vs. record { spans = xs; starts = ys; writers = ws; reads = rs; writes = vs; input_len = layout.input_len } in
-    ap (λ xs. l (layout.spans ++ xs) (layout.starts ++ next.starts) (with_writers layout.writers (length layout.spans) xs) next.cursors.reads next.cursors.writes) spans
-    ∙ ap (λ xs. l xs (layout.starts ++ next.starts) layout.writers next.cursors.reads next.cursors.writes) (append-nil layout.spans)
-    ∙ ap (λ ys. l layout.spans (layout.starts ++ ys) layout.writers next.cursors.reads next.cursors.writes) starts
-    ∙ ap (λ ys. l layout.spans ys layout.writers next.cursors.reads next.cursors.writes) (append-nil layout.starts)
-    ∙ ap (λ rs. l layout.spans layout.starts layout.writers rs next.cursors.writes) reads
-    ∙ ap (λ vs. l layout.spans layout.starts layout.writers layout.reads vs) writes
+pub joined-none : (layout : Layout) (next : NextSpans) → next.spans ≡ [] → next.starts ≡ [] → next.cursors ≡ layout.cursors → joined layout next ≡ layout
+joined-none layout next spans starts cursors =
+    let l : List Span → List ℕ → List (List ℕ) → Cursors → Layout = λ xs ys ws cs. record { spans = xs; starts = ys; writers = ws; cursors = cs; input_len = layout.input_len } in
+    ap (λ xs. l (layout.spans ++ xs) (layout.starts ++ next.starts) (with_writers layout.writers (length layout.spans) xs) next.cursors) spans
+    ∙ ap (λ xs. l xs (layout.starts ++ next.starts) layout.writers next.cursors) (append-nil layout.spans)
+    ∙ ap (λ ys. l layout.spans (layout.starts ++ ys) layout.writers next.cursors) starts
+    ∙ ap (λ ys. l layout.spans ys layout.writers next.cursors) (append-nil layout.starts)
+    ∙ ap (λ cs. l layout.spans layout.starts layout.writers cs) cursors
 
 -- ---- one more claim
 
 pub joined-with_next : (layout : Layout) (next : NextSpans) (frame : ℕ) (claim : Claim) (offset : ℕ) → joined layout (with_next next frame claim offset) ≡ with_claim (joined layout next) frame claim offset
 joined-with_next layout next frame claim offset =
-    let s : Span = record { frame = frame; stream = claim.stream; write = claim.write; first = first_of next.cursors claim; count = claim.horizon; offset = offset } in
+    let s : Span = span_by next.cursors frame claim offset in
     let ws : List (List ℕ) = with_writers layout.writers (length layout.spans) next.spans in
     let after = with_next next frame claim offset in
-    let l : List Span → List (List ℕ) → Layout = λ xs vs. record { spans = xs; starts = layout.starts ++ next.starts; writers = vs; reads = after.cursors.reads; writes = after.cursors.writes; input_len = layout.input_len } in
+    let l : List Span → List (List ℕ) → Layout = λ xs vs. record { spans = xs; starts = layout.starts ++ next.starts; writers = vs; cursors = after.cursors; input_len = layout.input_len } in
     ap (λ xs. l xs (with_writers layout.writers (length layout.spans) (next.spans ++ s ∷ []))) (sym (append_assoc layout.spans next.spans (s ∷ [])))
     ∙ ap (l ((layout.spans ++ next.spans) ++ s ∷ [])) (with_writers-push layout.writers (length layout.spans) next.spans s ∙ ap (λ k. with_writer ws k s) (sym (length-append layout.spans next.spans)))
-
-pub has_cursors : (layout : Layout) (next : NextSpans) (claim : Claim) → HasRoom (joined layout next) claim → HasCursors next.cursors claim
-has_cursors layout next claim room =
-    let e = room.stream_exists in
-    let r = room.reads_of_streams in
-    let w = room.writes_of_streams in
-    record {
-      read_cursor_exists = omega (arith, e, r);
-      write_cursor_exists = omega (arith, e, w);
-      read_cursor_fits = room.read_cursor_fits;
-      write_cursor_fits = room.write_cursor_fits;
-    }
 
 -- ---- what was laid out for lawful activations can be put behind the layout
 

@@ -175,7 +175,7 @@ module _ (layout : Layout) (whole : IsLayout layout) (code : Parts) (activations
   count : frame_count layout ≡ length all
   count = frame_count-is layout all laid_out
 
-  positions : slice_index layout.writes 1 ≡ written_count all 1
+  positions : slice_index layout.cursors.writes 1 ≡ written_count all 1
   positions = write_total layout (record { has_output = whole.has_output; activations = all; is_of = laid_out; lawful = all_lawful })
 
   no_output : ReadNoOutput all
@@ -195,7 +195,7 @@ module _ (layout : Layout) (whole : IsLayout layout) (code : Parts) (activations
       let e = ap length is.meant.is_meant.ends_are_meant ∙ length-ends is.before input (frame_outcome code is.before budget) in
       omega (arith, count, length-append is.before is.new)
 
-  pub shorter : length held.ends.output ≤ slice_index layout.writes 1
+  pub shorter : length held.ends.output ≤ slice_index layout.cursors.writes 1
   shorter =
       let e = ap length is.meant.is_meant.output_is_meant ∙ length-output is.before input (stream_meaning is.before input (frame_outcome code is.before budget)) in
       omega (arith, positions, written_more is.before is.new)
@@ -275,7 +275,7 @@ module _ (layout : Layout) (whole : IsLayout layout) (code : Parts) (activations
         put = put_over held.ends.ends frames run.ends (length all)
 
         pub held_after : (after : Held) → after.ends.ends ≡ put_over held.ends.ends frames run.ends (frame_count layout)
-            → after.ends.output ≡ output_over held.ends.output places run.output (slice_index layout.writes 1)
+            → after.ends.output ≡ output_over held.ends.output places run.output (slice_index layout.cursors.writes 1)
             → map kept_of after.kept.items ≡ carried_over activations (open_in after.ends.ends (frame_count layout)) kept places run.output
             → after.without_end ≡ open_in after.ends.ends (frame_count layout)
             → IsHeldOf code activations input budget after

@@ -2,10 +2,10 @@
 use Rattle.std.specs.Prelude.{ℕ, ◌+◌, ◌^◌, ◌<◌, All, List, [], ◌∷◌, ◌++◌, length, slice_index_or, slice_set, if◌then◌else◌}
 use Rattle.flow_core_laws.specs.declared.activation.Activation.{Activation}
 use Rattle.flow_core_laws.specs.declared.claim.Claim.{Claim}
+use Rattle.stream_match_layouts.specs.Cursors.{moved_by, span_by}
 use Rattle.stream_match_layouts.specs.Layout.{IsLayoutOf}
 use Rattle.stream_match_layouts.specs.declared.layout.Layout.{Layout}
 use Rattle.stream_match_layouts.specs.declared.span.Span.{Span}
-use Rattle.epoch_run_shares.specs.Cursors.{moved_by, span_by}
 use Rattle.epoch_run.specs.declared.next_spans.NextSpans.{NextSpans}
 
 -- the writers of the streams with one more span, which has a number
@@ -24,8 +24,7 @@ joined layout next = record {
   spans = layout.spans ++ next.spans;
   starts = layout.starts ++ next.starts;
   writers = with_writers layout.writers (length layout.spans) next.spans;
-  reads = next.cursors.reads;
-  writes = next.cursors.writes;
+  cursors = next.cursors;
   input_len = layout.input_len;
 }
 

@@ -131,7 +131,7 @@ fn count_of(layout: &Layout) -> u32 {
 
 /// About how many activations come in all, if each of the others reads as much of the input as those of a layout do on the average.
 fn expected(layout: &Layout) -> u32 {
-    let read = layout.reads.as_slice().first();
+    let read = layout.cursors.reads.as_slice().first();
     match read {
         Some(read) if *read > 0 => {
             let whole = u64::from(count_of(layout)).saturating_mul(u64::from(layout.input_len));

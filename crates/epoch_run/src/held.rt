@@ -71,7 +71,7 @@ impl Held {
         requires ends_fit { length run.now.ends ≡ length frames.now }
         requires values_fit { length run.now.output ≡ length (flat_map stretch_places leaves.now) }
         requires more { length self.old.ends.ends ≤ frame_count layout.now }
-        requires longer { length self.old.ends.output ≤ slice_index layout.now.writes 1 }
+        requires longer { length self.old.ends.output ≤ slice_index layout.now.cursors.writes 1 }
         requires kept_exist { All (λ k. k.stream < length layout.now.writers) self.old.kept.items }
         requires small { All (λ (s : Stretch). s.first + s.count < 2 ^ 64) leaves.now }
         requires places_exist { All (λ (p : Place). p.stream < length layout.now.writers) (flat_map stretch_places leaves.now) }
@@ -79,7 +79,7 @@ impl Held {
             ≡ put_over self.old.ends.ends frames.now run.now.ends (frame_count layout.now)) }
         ensures without_end { OnOk result (self.new.without_end ≡ open_in self.new.ends.ends (frame_count layout.now)) }
         ensures output { OnOk result (self.new.ends.output
-            ≡ output_over self.old.ends.output (flat_map stretch_places leaves.now) run.now.output (slice_index layout.now.writes 1)) }
+            ≡ output_over self.old.ends.output (flat_map stretch_places leaves.now) run.now.output (slice_index layout.now.cursors.writes 1)) }
         ensures kept { OnOk result ((activations : List Activation) → IsLayoutOf layout.now activations
             → map kept_of self.new.kept.items ≡ carried_over activations (open_in self.new.ends.ends (frame_count layout.now))
             (map kept_of self.old.kept.items) (flat_map stretch_places leaves.now) run.now.output) }
@@ -105,7 +105,7 @@ impl Held {
         requires ends_fit { length run.now.ends ≡ length frames.now }
         requires values_fit { length run.now.output ≡ length (flat_map stretch_places leaves.now) }
         requires more { length self.old.ends.ends ≤ frame_count layout.now }
-        requires longer { length self.old.ends.output ≤ slice_index layout.now.writes 1 }
+        requires longer { length self.old.ends.output ≤ slice_index layout.now.cursors.writes 1 }
         requires kept_exist { All (λ k. k.stream < length layout.now.writers) self.old.kept.items }
         requires small { All (λ (s : Stretch). s.first + s.count < 2 ^ 64) leaves.now }
         requires places_exist { All (λ (p : Place). p.stream < length layout.now.writers) (flat_map stretch_places leaves.now) }
@@ -113,7 +113,7 @@ impl Held {
             ≡ put_over self.old.ends.ends frames.now run.now.ends (frame_count layout.now)) }
         ensures without_end { OnOk result (self.new.without_end ≡ open_in self.new.ends.ends (frame_count layout.now)) }
         ensures output { OnOk result (self.new.ends.output
-            ≡ output_over self.old.ends.output (flat_map stretch_places leaves.now) run.now.output (slice_index layout.now.writes 1)) }
+            ≡ output_over self.old.ends.output (flat_map stretch_places leaves.now) run.now.output (slice_index layout.now.cursors.writes 1)) }
         ensures kept { OnOk result ((activations : List Activation) → IsLayoutOf layout.now activations
             → map kept_of self.new.kept.items ≡ carried_over activations (open_in self.new.ends.ends (frame_count layout.now))
             (map kept_of self.old.kept.items) (flat_map stretch_places leaves.now) run.now.output) }
@@ -124,7 +124,7 @@ impl Held {
             frames,
             run.ends.as_slice(),
         )?;
-        let positions = layout.writes.as_slice()[1] as usize;
+        let positions = layout.cursors.writes.as_slice()[1] as usize;
         take_output(
             &mut self.ends.output,
             positions,

@@ -1,16 +1,16 @@
 ghost use Rattle.std.specs.Prelude.{◌≡◌, ◌∷◌, ◌++◌, ◌+◌, ◌^◌, ◌<◌, [], All, IfOk, List, OnOk, length};
 ghost use Rattle.flow_core_laws.specs.declared.activation.Activation.{Activation};
+ghost use Rattle.stream_match_layouts.specs.Cursors.{HasCursors};
 ghost use Rattle.stream_match_layouts.specs.Layout.{IsLayoutOf, TakesMore};
 ghost use Rattle.stream_match_layouts.specs.declared.layout.Layout.{Layout};
 ghost use Rattle.stream_match_layouts.specs.declared.span.Span.{Span};
-ghost use Rattle.epoch_run_shares.specs.Cursors.{HasCursors};
 ghost use Rattle.epoch_run.specs.NextSpans.{FitBehind, joined, with_next, with_writer, with_writers};
 
-use epoch_run_shares::Cursors;
 use flow_core_laws::{Activation, Claim};
 use os_io::{List, Memory};
 use std::alloc::Global;
 use stream_match::{Layout, Span};
+use stream_match_layouts::Cursors;
 
 /// The positions of activations that come next, apart from the layout that they are to stand behind: so they are worked out while
 /// workers read that layout. What it holds is counted on from the layout, and is put behind it as it stands.
@@ -36,10 +36,7 @@ impl NextSpans {
         let mut next = NextSpans {
             spans: List::new(alloc),
             starts: List::new(alloc),
-            cursors: Cursors {
-                reads: List::from_slice(alloc, layout.reads.as_slice())?,
-                writes: List::from_slice(alloc, layout.writes.as_slice())?,
-            },
+            cursors: layout.cursors.copy(alloc)?,
         };
         next.spans.reserve(activations.saturating_mul(2))?;
         next.starts.reserve(activations)?;
@@ -103,14 +100,13 @@ impl NextSpans {
         let NextSpans {
             spans,
             starts,
-            cursors: Cursors { reads, writes },
+            cursors,
         } = self;
         let first = layout.spans.len() as u32;
         add_writers(&mut layout.writers, first, spans.as_slice())?;
         layout.spans.extend_from_slice(spans.as_slice())?;
         layout.starts.extend_from_slice(starts.as_slice())?;
-        layout.reads = reads;
-        layout.writes = writes;
+        layout.cursors = cursors;
         Ok(())
     }
 }

@@ -24,14 +24,14 @@ StillHold cursors old new =
 
 -- the cursors of a layout
 cursors_of : (layout : Layout) (given : List Activation) (n : ℕ) → IsLayoutOf layout given → length layout.writers ≡ n
-    → layout.reads ≡ map (λ stream. read_cursor stream (claims_of given)) (range_with_len 0 n)
+    → layout.cursors.reads ≡ map (λ stream. read_cursor stream (claims_of given)) (range_with_len 0 n)
 cursors_of layout given n is many =
     is.of_windows.reads
     ∙ ap (λ cs. map (λ stream. read_cursor stream cs) (range_with_len 0 (length layout.writers))) (claims_in-windows given)
     ∙ ap (λ k. map (λ stream. read_cursor stream (claims_of given)) (range_with_len 0 k)) many
 
 pub still_stands : (code : Parts) (all given : List Activation) (input : List ℕ) (budget : ℕ) (layout : Layout) (cursors : List ℕ) (old new : InOrder)
-    → StillHold cursors old.streams new.streams → cursors ≡ layout.reads → new.ends ≡ old.ends
+    → StillHold cursors old.streams new.streams → cursors ≡ layout.cursors.reads → new.ends ≡ old.ends
     → IsLayoutOf layout given → length layout.writers ≡ length old.streams.elements
     → StandsBehind code all given input budget old → StandsBehind code all given input budget new
 still_stands code all given input budget layout cursors old new hold are ends is many stands = record {

@@ -30,7 +30,7 @@ use Rattle.epoch_run_in_order.specs.declared.streams.Streams.{Streams}
 -- streams of which nothing is kept yet
 blanks_hold : (layout : Layout) (output : List (Option Elem)) (firsts : List ℕ) → 2 ≤ length layout.writers
     → ((stream : ℕ) → stream < length layout.writers → get_or firsts stream 0 ≡ first_on layout stream)
-    → HoldKept (length layout.writers) firsts (λ stream. get_or layout.writes stream 0 - get_or firsts stream 0) output
+    → HoldKept (length layout.writers) firsts (λ stream. get_or layout.cursors.writes stream 0 - get_or firsts stream 0) output
     ([] ∷ output ∷ map (blank_on layout) (range_with_len 2 (length layout.writers - 2))) []
 blanks_hold layout output firsts two are = record {
   as_many = let e = length-map-range_with_len (blank_on layout) 2 (length layout.writers - 2) in omega arith;
@@ -40,13 +40,13 @@ blanks_hold layout output firsts two are = record {
   where
     on : (stream : ℕ) → 2 ≤ stream → stream < length layout.writers
         → get_or ([] ∷ output ∷ map (blank_on layout) (range_with_len 2 (length layout.writers - 2))) stream []
-        ≡ map (value_kept []) (places_from stream (get_or firsts stream 0) (get_or layout.writes stream 0 - get_or firsts stream 0))
+        ≡ map (value_kept []) (places_from stream (get_or firsts stream 0) (get_or layout.cursors.writes stream 0 - get_or firsts stream 0))
     on zero low lt = absurd (omega arith)
     on (suc zero) low lt = absurd (omega arith)
     on (suc (suc j)) low lt =
         get_or-map-range_with_len (blank_on layout) 2 (length layout.writers - 2) j (suc (suc j)) [] (omega arith) (omega arith)
-        ∙ none_kept (suc (suc j)) (get_or firsts (suc (suc j)) 0) (get_or layout.writes (suc (suc j)) 0 - first_on layout (suc (suc j)))
-        ∙ ap (λ first. map (value_kept []) (places_from (suc (suc j)) (get_or firsts (suc (suc j)) 0) (get_or layout.writes (suc (suc j)) 0 - first)))
+        ∙ none_kept (suc (suc j)) (get_or firsts (suc (suc j)) 0) (get_or layout.cursors.writes (suc (suc j)) 0 - first_on layout (suc (suc j)))
+        ∙ ap (λ first. map (value_kept []) (places_from (suc (suc j)) (get_or firsts (suc (suc j)) 0) (get_or layout.cursors.writes (suc (suc j)) 0 - first)))
         (sym (are (suc (suc j)) lt))
 
 -- with what is kept they are those behind the activations
@@ -63,7 +63,7 @@ are_behind layout output kept streams blanks is firsts_are blanks_are elements_a
   output_from_0 = first_is 1 (omega (arith, is.has_output));
   firsts_are = λ stream low lt.
       first_is stream (omega (arith, hold.as_many))
-      ∙ ap (λ b. cond b 0 (min (get_or layout.reads stream 0) (get_or layout.writes stream 0))) (le-ltb stream 2 low);
+      ∙ ap (λ b. cond b 0 (min (get_or layout.cursors.reads stream 0) (get_or layout.cursors.writes stream 0))) (le-ltb stream 2 low);
   elements_are = λ stream low lt. hold.are_kept stream low (omega (arith, hold.as_many));
 }
   where
@@ -73,10 +73,10 @@ are_behind layout output kept streams blanks is firsts_are blanks_are elements_a
     first_is : (stream : ℕ) → stream < n → get_or streams.firsts stream 0 ≡ first_on layout stream
     first_is stream lt = ap (λ fs. get_or fs stream 0) firsts_are ∙ get_or-map-range_with_len (first_on layout) 0 n stream stream 0 lt (omega arith)
 
-    hold : HoldKept n streams.firsts (λ stream. get_or layout.writes stream 0 - get_or streams.firsts stream 0) output streams.elements kept
-    hold = subst (λ es. HoldKept n streams.firsts (λ stream. get_or layout.writes stream 0 - get_or streams.firsts stream 0) output es kept) (sym elements_are)
-        (hold_all n streams.firsts (λ stream. get_or layout.writes stream 0 - get_or streams.firsts stream 0) output blanks kept
-        (subst (λ es. HoldKept n streams.firsts (λ stream. get_or layout.writes stream 0 - get_or streams.firsts stream 0) output es []) (sym blanks_are)
+    hold : HoldKept n streams.firsts (λ stream. get_or layout.cursors.writes stream 0 - get_or streams.firsts stream 0) output streams.elements kept
+    hold = subst (λ es. HoldKept n streams.firsts (λ stream. get_or layout.cursors.writes stream 0 - get_or streams.firsts stream 0) output es kept) (sym elements_are)
+        (hold_all n streams.firsts (λ stream. get_or layout.cursors.writes stream 0 - get_or streams.firsts stream 0) output blanks kept
+        (subst (λ es. HoldKept n streams.firsts (λ stream. get_or layout.cursors.writes stream 0 - get_or streams.firsts stream 0) output es []) (sym blanks_are)
         (blanks_hold layout output streams.firsts is.has_output first_is)))
 
 -- so a run in control order stands behind them
@@ -94,7 +94,7 @@ stands_behind law code all before input budget layout ends kept output order who
       (omega (arith, whole.has_output, behind.elements_as_many))
       behind.output_is behind.output_from_0 behind.input_from_0
       (λ stream low lt. behind.firsts_are stream low lt
-      ∙ ap (λ r. min r (get_or layout.writes stream 0)) (reads_are stream (omega (arith, behind.elements_as_many)))
+      ∙ ap (λ r. min r (get_or layout.cursors.writes stream 0)) (reads_are stream (omega (arith, behind.elements_as_many)))
       ∙ ap (λ w. min (read_cursor stream (claims_of before)) w) (writes_are stream (omega (arith, behind.elements_as_many))))
       (λ stream low lt. behind.elements_are stream low lt
       ∙ ap (λ w. map (value_kept kept) (places_from stream (get_or order.streams.firsts stream 0) (w - get_or order.streams.firsts stream 0)))
@@ -104,13 +104,13 @@ stands_behind law code all before input budget layout ends kept output order who
     n : ℕ
     n = length layout.writers
 
-    reads_are : (stream : ℕ) → stream < n → get_or layout.reads stream 0 ≡ read_cursor stream (claims_of before)
+    reads_are : (stream : ℕ) → stream < n → get_or layout.cursors.reads stream 0 ≡ read_cursor stream (claims_of before)
     reads_are stream lt =
         ap (λ cs. get_or cs stream 0) is.of_windows.reads
         ∙ get_or-map-range_with_len (λ s. read_cursor s (claims_in (windows before))) 0 n stream stream 0 lt (omega arith)
         ∙ ap (read_cursor stream) (claims_in-windows before)
 
-    writes_are : (stream : ℕ) → stream < n → get_or layout.writes stream 0 ≡ written_count before stream
+    writes_are : (stream : ℕ) → stream < n → get_or layout.cursors.writes stream 0 ≡ written_count before stream
     writes_are stream lt =
         ap (λ cs. get_or cs stream 0) is.of_windows.writes
         ∙ get_or-map-range_with_len (λ s. write_cursor s (claims_in (windows before))) 0 n stream stream 0 lt (omega arith)

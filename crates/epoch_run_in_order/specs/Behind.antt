@@ -9,11 +9,11 @@ use Rattle.epoch_run_in_order.specs.declared.streams.Streams.{Streams}
 
 -- the position of the first element of a stream to be held
 abbrev pub first_on : Layout → ℕ → ℕ
-first_on layout stream = if nat_lt stream 2 then 0 else min (slice_index layout.reads stream) (slice_index layout.writes stream)
+first_on layout stream = if nat_lt stream 2 then 0 else min (slice_index layout.cursors.reads stream) (slice_index layout.cursors.writes stream)
 
 -- the elements of a declared stream from there on, where none is kept yet
 abbrev pub blank_on : Layout → ℕ → List (Option Elem)
-blank_on layout stream = replicate (slice_index layout.writes stream - first_on layout stream) None
+blank_on layout stream = replicate (slice_index layout.cursors.writes stream - first_on layout stream) None
 
 -- the elements from a first position on, with that at a position put there
 abbrev pub with_element : (first : ℕ) → List (Option Elem) → (position : ℕ) → Elem → List (Option Elem)
@@ -39,7 +39,8 @@ pub record AreBehind (layout : Layout) (output : List (Option Elem)) (kept : Lis
   pub input_from_0 : slice_index streams.firsts 0 ≡ 0
   pub output_from_0 : slice_index streams.firsts 1 ≡ 0
   pub firsts_are : (stream : ℕ) → 2 ≤ stream → stream < length streams.elements
-      → slice_index streams.firsts stream ≡ min (slice_index layout.reads stream) (slice_index layout.writes stream)
+      → slice_index streams.firsts stream ≡ min (slice_index layout.cursors.reads stream) (slice_index layout.cursors.writes stream)
   pub elements_are : (stream : ℕ) → 2 ≤ stream → stream < length streams.elements
       → slice_index_or streams.elements stream []
-      ≡ map (value_kept kept) (places_from stream (slice_index streams.firsts stream) (slice_index layout.writes stream - slice_index streams.firsts stream))
+      ≡ map (value_kept kept)
+          (places_from stream (slice_index streams.firsts stream) (slice_index layout.cursors.writes stream - slice_index streams.firsts stream))

@@ -50,7 +50,7 @@ fn first_on(layout: &Layout, stream: usize) -> u64
     if stream < 2 {
         return 0;
     }
-    cursor_of(layout.reads.as_slice(), stream).min(cursor_of(layout.writes.as_slice(), stream))
+    cursor_of(layout.cursors.reads.as_slice(), stream).min(cursor_of(layout.cursors.writes.as_slice(), stream))
 }
 
 /// The elements of the streams where none is kept yet: of the output all.
@@ -88,7 +88,7 @@ fn add_blanks(
 fn blank_on(alloc: Global, layout: &Layout, stream: usize) -> Result<List<Option<Elem>>, Memory>
     ensures { IfOk result (λ blank. blank ≡ blank_on layout.now stream) }
 {
-    let count = cursor_of(layout.writes.as_slice(), stream).saturating_sub(first_on(
+    let count = cursor_of(layout.cursors.writes.as_slice(), stream).saturating_sub(first_on(
         layout, stream,
     ));
     blank(alloc, count)

@@ -44,21 +44,21 @@ pub lowered_one : (spans : List Span) (stream before after : ℕ) (span : Span) 
 lowered_one spans stream before after span is_one step = lowered_more spans stream before before after span is_one (as_before refl) step
 
 -- behind all that is written
-pub behind_missing : (layout : Layout) (is : IsLayout layout) (waits : List Bool) → AreMissing layout waits (set layout.writes 0 layout.input_len)
-behind_missing layout is waits = record { one_each = length-set layout.writes 0 layout.input_len ∙ streams; cannot_come = λ stream lt. behind (until stream (cases_eq stream 0)) }
+pub behind_missing : (layout : Layout) (is : IsLayout layout) (waits : List Bool) → AreMissing layout waits (set layout.cursors.writes 0 layout.input_len)
+behind_missing layout is waits = record { one_each = length-set layout.cursors.writes 0 layout.input_len ∙ streams; cannot_come = λ stream lt. behind (until stream (cases_eq stream 0)) }
   where
-    streams : length layout.writes ≡ length layout.writers
+    streams : length layout.cursors.writes ≡ length layout.writers
     streams = ap length is.is_of.of_windows.writes ∙ length-map-range_with_len (λ stream. write_cursor stream (claims_in (windows is.activations))) 0 (length layout.writers)
 
-    at_other : (stream : ℕ) → stream ≢ 0 → (b : Bool) → (stream == 0) ≡ b → cond b layout.input_len (get_or layout.writes stream 0) ≤ get_or layout.writes stream 0
+    at_other : (stream : ℕ) → stream ≢ 0 → (b : Bool) → (stream == 0) ≡ b → cond b layout.input_len (get_or layout.cursors.writes stream 0) ≤ get_or layout.cursors.writes stream 0
     at_other stream other true e = absurd (other (eqb-true stream 0 e))
     at_other stream other false e = omega arith
 
-    until : (stream : ℕ) → (stream ≡ 0) ⊎ (stream ≢ 0) → written_until layout stream ≤ get_or (set layout.writes 0 layout.input_len) stream 0
+    until : (stream : ℕ) → (stream ≡ 0) ⊎ (stream ≢ 0) → written_until layout stream ≤ get_or (set layout.cursors.writes 0 layout.input_len) stream 0
     until stream (inl zero_is) =
-        let here : get_or (set layout.writes 0 layout.input_len) 0 0 ≡ layout.input_len = get_or-set_same layout.writes 0 layout.input_len 0 (omega (arith, streams, is.has_output)) in
-        subst (λ n. written_until layout n ≤ get_or (set layout.writes 0 layout.input_len) n 0) (sym zero_is) (omega (arith, here))
-    until stream (inr other) = subst (λ n. written_until layout stream ≤ n) (sym (get_or-set_other layout.writes 0 stream layout.input_len 0 other)) (at_other stream other (stream == 0) refl)
+        let here : get_or (set layout.cursors.writes 0 layout.input_len) 0 0 ≡ layout.input_len = get_or-set_same layout.cursors.writes 0 layout.input_len 0 (omega (arith, streams, is.has_output)) in
+        subst (λ n. written_until layout n ≤ get_or (set layout.cursors.writes 0 layout.input_len) n 0) (sym zero_is) (omega (arith, here))
+    until stream (inr other) = subst (λ n. written_until layout stream ≤ n) (sym (get_or-set_other layout.cursors.writes 0 stream layout.input_len 0 other)) (at_other stream other (stream == 0) refl)
 
 -- what a stuck activation writes
 written_missing : (layout : Layout) (is : IsLayout layout) (waits : List Bool) (a : ℕ) (s : Span) → a < frame_count layout → Has (spans_of layout a) s → s.write ≡ true → is_stuck waits a ≡ true → PositionCannotCome layout waits s.stream s.first

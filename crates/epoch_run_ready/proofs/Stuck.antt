@@ -109,7 +109,7 @@ module _ (layout : Layout) (activations : List Activation) (of : IsLayoutOf layo
   written_is : (stream : ℕ) → stream < length layout.writers → stream ≢ 0 → written_until layout stream ≡ write_cursor stream (claims_of activations)
   written_is stream exists other = by_test (stream == 0) refl
     where
-      by_test : (b : Bool) → (stream == 0) ≡ b → cond b layout.input_len (get_or layout.writes stream 0) ≡ write_cursor stream (claims_of activations)
+      by_test : (b : Bool) → (stream == 0) ≡ b → cond b layout.input_len (get_or layout.cursors.writes stream 0) ≡ write_cursor stream (claims_of activations)
       by_test true e = absurd (other (eqb-true stream 0 e))
       by_test false e =
           ap (λ xs. get_or xs stream 0) of.of_windows.writes
@@ -132,7 +132,7 @@ module _ (layout : Layout) (activations : List Activation) (of : IsLayoutOf layo
     where
       by_stream : (b : Bool) → (p.stream == 0) ≡ b → epoch.CannotCome ends frames (stream_source activations input p)
       by_stream true e =
-          let le' : layout.input_len ≤ p.position = subst (λ (b : Bool). cond b layout.input_len (get_or layout.writes p.stream 0) ≤ p.position) e le in
+          let le' : layout.input_len ≤ p.position = subst (λ (b : Bool). cond b layout.input_len (get_or layout.cursors.writes p.stream 0) ≤ p.position) e le in
           subst (epoch.CannotCome ends frames) (sym (ap (λ (b : Bool). cond b (input_source input p.position) (produced_source activations p.stream p.position)) e ∙ of_input p.position le')) unwritten
       by_stream false e =
           let other : p.stream ≢ 0 = λ z. let t : (p.stream == 0) ≡ true = ap (λ n. n == 0) z in absurd (cc) in

@@ -14,7 +14,7 @@ is_stuck waits activation = slice_index_or waits activation false
 
 -- how many positions of a stream are written, or are the input's
 abbrev pub written_until : Layout → ℕ → ℕ
-written_until layout stream = if stream == 0 then layout.input_len else slice_index layout.writes stream
+written_until layout stream = if stream == 0 then layout.input_len else slice_index layout.cursors.writes stream
 
 -- the element at a position can't come: it lies behind all that is written, or a stuck activation writes it
 pub data PositionCannotCome (layout : Layout) (waits : List Bool) (stream position : ℕ) : Type 0 where

@@ -16,7 +16,7 @@ pub(crate) fn behind_all(alloc: Global, layout: &Layout) -> Result<Vec<u64>, Mem
     requires layout { IsLayout layout.now }
     ensures { IfOk result (λ missing. (waits : List Bool) → AreMissing layout.now waits missing.items) }
 {
-    let mut missing = Vec::from_slice(alloc, layout.writes.as_slice())?;
+    let mut missing = Vec::from_slice(alloc, layout.cursors.writes.as_slice())?;
     missing[0] = u64::from(layout.input_len);
     Ok(missing)
 }

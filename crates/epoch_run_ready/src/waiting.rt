@@ -154,7 +154,7 @@ fn written_until(layout: &Layout, stream: u32) -> u64
     if stream == 0 {
         u64::from(layout.input_len)
     } else {
-        layout.writes.as_slice()[stream as usize]
+        layout.cursors.writes.as_slice()[stream as usize]
     }
 }
 
@@ -196,7 +196,7 @@ fn even_place(layout: &Layout, span: Span) -> usize
     requires exists { span.stream < length layout.now.writers }
 {
     let writers = layout.writers.as_slice()[span.stream as usize].len() as u64;
-    let Some(written) = layout.writes.as_slice().get(span.stream as usize) else {
+    let Some(written) = layout.cursors.writes.as_slice().get(span.stream as usize) else {
         return 0;
     };
     if *written == 0 {

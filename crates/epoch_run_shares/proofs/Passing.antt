@@ -1,5 +1,5 @@
 -- How cursors move by the claims of activations.
-use Rattle.std.proofs.Common.{◌≡◌, ℕ, zero, suc, ◌+◌, ◌^◌, ◌<◌, ◌≤◌, Bool, List, [], ◌∷◌, ◌++◌, All, length, take, drop, map, get_or, replicate, refl, sym, ap, ◌∙◌, subst, arith}
+use Rattle.std.proofs.Common.{◌≡◌, ℕ, suc, ◌+◌, ◌^◌, ◌<◌, ◌≤◌, Bool, List, [], ◌∷◌, ◌++◌, All, length, take, drop, map, get_or, replicate, refl, sym, ap, ◌∙◌, subst, arith}
 use Rattle.std.specs.Prelude.{sum_by}
 use Rattle.std.specs.Bool.{beq}
 use Rattle.std.specs.List.{range_with_len}
@@ -15,18 +15,18 @@ use Rattle.flow_core_laws.specs.declared.activation.Activation.{Activation}
 use Rattle.flow_core_laws.specs.FirstPosition.{first_position, read_cursor, write_cursor}
 use Rattle.flow_core_laws.specs.Window.{Window, claim_at, claims_of, no_claim, offset_after, window_of, windows_behind, windows_of}
 use Rattle.flow_core_laws.proofs.Stretches.{slice_get-append_right}
+use Rattle.stream_match_layouts.specs.declared.cursors.Cursors.{Cursors}
 use Rattle.stream_match_layouts.specs.declared.layout.Layout.{Layout}
 use Rattle.stream_match_layouts.specs.declared.span.Span.{Span}
-use Rattle.stream_match_layouts.specs.Adding.{HasRoom, first_by, reads_after, with_claim, writes_after}
+use Rattle.stream_match_layouts.specs.Adding.{with_claim}
+use Rattle.stream_match_layouts.specs.Cursors.{HasCursors, first_of, moved_by, span_by}
 use Rattle.stream_match_layouts.specs.Lawful.{AreLawful, IsLawfulClaim}
 use Rattle.stream_match_layouts.specs.Layout.{IsOfWindows, claims_in, span_of, writers_of}
-use Rattle.stream_match_layouts.proofs.Appending.{claims_of-push, take_next}
+use Rattle.stream_match_layouts.proofs.Appending.{claims_of-push, replicate-is, take_next}
 use Rattle.stream_match_layouts.proofs.Bounds.{filtered-le, has_room, lawful-front}
-use Rattle.stream_match_layouts.proofs.Pushing.{first_by-is, is_of_push, length-writers_after}
+use Rattle.stream_match_layouts.proofs.Pushing.{first_of-is, is_of_push, length-writers_after}
 use Rattle.stream_match_layouts.proofs.Windows.{alike, claims_in-append, first_windows, first_windows-more}
-use Rattle.epoch_run_shares.specs.Cursors.{HasCursors, first_of}
 use Rattle.epoch_run_shares.specs.Positions.{HasTaken, HavePassed, PassMore}
-use Rattle.epoch_run_shares.specs.declared.cursors.Cursors.{Cursors}
 use Rattle.epoch_run_shares.specs.declared.positions.Positions.{Positions}
 
 -- ---- lists
@@ -44,13 +44,13 @@ claims_in-windows_by : (cs : List Claim) → claims_in (map window_by cs) ≡ cs
 claims_in-windows_by [] = refl
 claims_in-windows_by (c ∷ cs) = ap (λ ds. c ∷ ds) (claims_in-windows_by cs)
 
-module _ (streams : ℕ) (cs : List Claim) (reads writes : List ℕ) (reads_are : reads ≡ map (λ s. read_cursor s cs) (range_with_len 0 streams))
-    (writes_are : writes ≡ map (λ s. write_cursor s cs) (range_with_len 0 streams)) where
+module _ (streams : ℕ) (cs : List Claim) (cursors : Cursors) (reads_are : cursors.reads ≡ map (λ s. read_cursor s cs) (range_with_len 0 streams))
+    (writes_are : cursors.writes ≡ map (λ s. write_cursor s cs) (range_with_len 0 streams)) where
   abbrev ws : List Window
   ws = map window_by cs
 
   abbrev layout : Layout
-  layout = record { spans = map span_of ws; starts = []; writers = map (writers_of ws) (range_with_len 0 streams); reads = reads; writes = writes; input_len = 0 }
+  layout = record { spans = map span_of ws; starts = []; writers = map (writers_of ws) (range_with_len 0 streams); cursors = cursors; input_len = 0 }
 
   as_many : length layout.writers ≡ streams
   as_many = length-map-range_with_len (writers_of ws) 0 streams
@@ -80,24 +80,24 @@ module _ (streams : ℕ) (cs : List Claim) (reads writes : List ℕ) (reads_are 
     streams_next : length (with_claim layout 0 claim 0).writers ≡ streams
     streams_next = length-writers_after layout claim ∙ as_many
 
-    pub reads_move : reads_after layout claim ≡ map (λ s. read_cursor s (cs ++ claim ∷ [])) (range_with_len 0 streams)
+    pub reads_move : (moved_by cursors claim).reads ≡ map (λ s. read_cursor s (cs ++ claim ∷ [])) (range_with_len 0 streams)
     reads_move = next.reads ∙ ap (λ ds. map (λ s. read_cursor s ds) (range_with_len 0 (length (with_claim layout 0 claim 0).writers))) claims_next ∙ ap (λ n. map (λ s. read_cursor s (cs ++ claim ∷ [])) (range_with_len 0 n)) streams_next
 
-    pub writes_move : writes_after layout claim ≡ map (λ s. write_cursor s (cs ++ claim ∷ [])) (range_with_len 0 streams)
+    pub writes_move : (moved_by cursors claim).writes ≡ map (λ s. write_cursor s (cs ++ claim ∷ [])) (range_with_len 0 streams)
     writes_move = next.writes ∙ ap (λ ds. map (λ s. write_cursor s ds) (range_with_len 0 (length (with_claim layout 0 claim 0).writers))) claims_next ∙ ap (λ n. map (λ s. write_cursor s (cs ++ claim ∷ [])) (range_with_len 0 n)) streams_next
 
-    pub begins : first_by layout claim ≡ first_position cs claim
-    begins = first_by-is layout ws of claim there ∙ ap (λ ds. first_position ds claim) (claims_in-windows_by cs)
+    pub begins : first_of cursors claim ≡ first_position cs claim
+    begins = first_of-is layout ws of claim there ∙ ap (λ ds. first_position ds claim) (claims_in-windows_by cs)
 
     -- no cursor passes the end of its type, where the claims are lawful
-    pub room : (rest : List Claim) → All (IsLawfulClaim streams) (cs ++ claim ∷ rest) → sum_by (λ (c : Claim). c.horizon) (cs ++ claim ∷ rest) ≤ 4194304
-        → sum_by (λ (c : Claim). c.skip + c.burst) (cs ++ claim ∷ rest) < 2 ^ 62 → HasRoom layout claim
-    room rest lawful positions cursors =
+    pub has_cursors : (rest : List Claim) → All (IsLawfulClaim streams) (cs ++ claim ∷ rest) → sum_by (λ (c : Claim). c.horizon) (cs ++ claim ∷ rest) ≤ 4194304
+        → sum_by (λ (c : Claim). c.skip + c.burst) (cs ++ claim ∷ rest) < 2 ^ 62 → HasCursors cursors claim
+    has_cursors rest lawful positions small =
         let same : cs ≡ claims_in ws = sym (claims_in-windows_by cs) in
-        has_room layout ws claim rest of
+        (has_room layout ws claim rest of
         (subst (λ n. All (IsLawfulClaim n) (claims_in ws ++ claim ∷ rest)) (sym as_many) (subst (λ ds. All (IsLawfulClaim streams) (ds ++ claim ∷ rest)) same lawful))
         (subst (λ ds. sum_by (λ (c : Claim). c.horizon) (ds ++ claim ∷ rest) ≤ 4194304) same positions)
-        (subst (λ ds. sum_by (λ (c : Claim). c.skip + c.burst) (ds ++ claim ∷ rest) < 2 ^ 62) same cursors)
+        (subst (λ ds. sum_by (λ (c : Claim). c.skip + c.burst) (ds ++ claim ∷ rest) < 2 ^ 62) same small)).cursors
 
 -- ---- the claims of an activation, one by one
 
@@ -124,32 +124,18 @@ module _ (streams frame : ℕ) (earlier claims : List Claim) (k : ℕ) (now : Po
   -- one more of them
   pub added_next : (offset : ℕ) (after : Positions) → offset ≡ alike claim.write (take k claims) → HasTaken now frame claim offset after → HaveAdded streams frame earlier claims (k + 1) after
   added_next offset after offset_is taken =
-      let begin : first_of now.cursors claim ≡ first_position so_far claim = begins streams so_far now.cursors.reads now.cursors.writes added.reads added.writes claim exists in
-      let span : record { frame = frame; stream = claim.stream; write = claim.write; first = first_of now.cursors claim; count = claim.horizon; offset = offset } ≡ span_of (window_of frame earlier claims k) =
+      let begin : first_of now.cursors claim ≡ first_position so_far claim = begins streams so_far now.cursors added.reads added.writes claim exists in
+      let span : span_by now.cursors frame claim offset ≡ span_of (window_of frame earlier claims k) =
       ap (λ n. record { frame = frame; stream = claim.stream; write = claim.write; first = n; count = claim.horizon; offset = offset }) begin
       ∙ ap (λ n. record { frame = frame; stream = claim.stream; write = claim.write; first = first_position so_far claim; count = claim.horizon; offset = n }) offset_is
       ∙ ap (λ (c : Claim). record { frame = frame; stream = c.stream; write = c.write; first = first_position so_far c; count = c.horizon; offset = offset_after (take k claims) c }) is in
       record {
-        reads = ap (λ (c : Cursors). c.reads) taken.cursors ∙ reads_move streams so_far now.cursors.reads now.cursors.writes added.reads added.writes claim exists ∙ ap (λ cs. map (λ s. read_cursor s cs) (range_with_len 0 streams)) one_more;
-        writes = ap (λ (c : Cursors). c.writes) taken.cursors ∙ writes_move streams so_far now.cursors.reads now.cursors.writes added.reads added.writes claim exists ∙ ap (λ cs. map (λ s. write_cursor s cs) (range_with_len 0 streams)) one_more;
+        reads = ap (λ (c : Cursors). c.reads) taken.cursors ∙ reads_move streams so_far now.cursors added.reads added.writes claim exists ∙ ap (λ cs. map (λ s. read_cursor s cs) (range_with_len 0 streams)) one_more;
+        writes = ap (λ (c : Cursors). c.writes) taken.cursors ∙ writes_move streams so_far now.cursors added.reads added.writes claim exists ∙ ap (λ cs. map (λ s. write_cursor s cs) (range_with_len 0 streams)) one_more;
         spans =
             taken.spans ∙ ap (λ (s : Span). now.spans.items ++ s ∷ []) span ∙ ap (λ (ss : List Span). ss ++ span_of (window_of frame earlier claims k) ∷ []) added.spans
             ∙ sym (map-append span_of (first_windows frame earlier claims k) (window_of frame earlier claims k ∷ []))
             ∙ ap (map span_of) (sym (first_windows-more frame earlier claims k));
-      }
-
-  -- there is room for it
-  pub has_cursors : (rest : List Claim) → All (IsLawfulClaim streams) (so_far ++ claim ∷ rest) → sum_by (λ (c : Claim). c.horizon) (so_far ++ claim ∷ rest) ≤ 4194304
-      → sum_by (λ (c : Claim). c.skip + c.burst) (so_far ++ claim ∷ rest) < 2 ^ 62 → HasCursors now.cursors claim
-  has_cursors rest lawful positions cursors =
-      let r = room streams so_far now.cursors.reads now.cursors.writes added.reads added.writes claim exists rest lawful positions cursors in
-      let e = r.stream_exists in
-      let m = length-map-range_with_len (writers_of (map window_by so_far)) 0 streams in
-      record {
-        read_cursor_exists = omega (arith, exists, ap length added.reads ∙ length-map-range_with_len (λ s. read_cursor s so_far) 0 streams);
-        write_cursor_exists = omega (arith, exists, ap length added.writes ∙ length-map-range_with_len (λ s. write_cursor s so_far) 0 streams);
-        read_cursor_fits = r.read_cursor_fits;
-        write_cursor_fits = r.write_cursor_fits;
       }
 
 -- ---- the next activation
@@ -202,7 +188,7 @@ module _ (positions : Positions) (x : Activation) (more : PassMore positions (x 
 
   pub cursors_at : (k : ℕ) → (lt : k < length cl) → (frame : ℕ) (now : Positions) → HaveAdded more.streams frame earlier_ones cl k now → HasCursors now.cursors (claim_at cl k)
   cursors_at k lt frame now added =
-      has_cursors more.streams frame earlier_ones cl k now added (claim_at cl k) refl lt (stream_exists k lt) (drop (suc k) cl) (lawful_all k lt)
+      has_cursors more.streams (earlier_ones ++ take k cl) now.cursors added.reads added.writes (claim_at cl k) (stream_exists k lt) (drop (suc k) cl) (lawful_all k lt)
       (subst (λ cs. sum_by (λ (c : Claim). c.horizon) cs ≤ 4194304) (whole k lt) more.lawful.positions_are_few)
       (subst (λ cs. sum_by (λ (c : Claim). c.skip + c.burst) cs < 2 ^ 62) (whole k lt) more.lawful.cursors_are_small)
 
@@ -233,12 +219,12 @@ spans_added streams passed x now added = added.spans ∙ ap (map span_of) (sym (
 
 -- ---- no activation, and several
 
-same_each : {X : Type 0} (a n : ℕ) (x : X) → replicate n x ≡ map (λ k. x) (range_with_len a n)
-same_each a zero x = refl
-same_each a (suc n) x = ap (λ xs. x ∷ xs) (same_each (a + 1) n x)
-
-pub none_passed : (streams : ℕ) (positions : Positions) → positions.cursors.reads ≡ replicate streams 0 → positions.cursors.writes ≡ replicate streams 0 → positions.count ≡ 0 → HavePassed streams [] positions
-none_passed streams positions reads writes count = record { reads = reads ∙ same_each 0 streams 0; writes = writes ∙ same_each 0 streams 0; count = count }
+pub none_passed : (streams : ℕ) (positions : Positions) → positions.cursors ≡ record { reads = replicate streams 0; writes = replicate streams 0 } → positions.count ≡ 0 → HavePassed streams [] positions
+none_passed streams positions cursors count = record {
+  reads = ap (λ (c : Cursors). c.reads) cursors ∙ replicate-is 0 streams 0;
+  writes = ap (λ (c : Cursors). c.writes) cursors ∙ replicate-is 0 streams 0;
+  count = count;
+}
 
 pub pass_next : (positions now : Positions) (acts : List Activation) (k : ℕ) (x : Activation) → PassMore positions acts → k < length acts → x ≡ get_or acts k x
     → ((streams : ℕ) (passed : List Activation) → HavePassed streams passed positions → HavePassed streams (passed ++ take k acts) now) → PassMore now (x ∷ [])

@@ -6,8 +6,8 @@ use Rattle.flow_core_laws.specs.Place.{written_count}
 use Rattle.flow_core_laws.specs.Window.{claims_of}
 use Rattle.flow_core_laws.specs.declared.activation.Activation.{Activation}
 use Rattle.flow_core_laws.specs.declared.claim.Claim.{Claim}
+use Rattle.stream_match_layouts.specs.Cursors.{moved_by, span_by}
 use Rattle.stream_match_layouts.specs.Lawful.{AreLawful}
-use Rattle.epoch_run_shares.specs.Cursors.{moved_by, span_by}
 use Rattle.epoch_run_shares.specs.declared.positions.Positions.{Positions}
 
 -- These activations were passed, over `streams` streams: the cursors stand behind them, and `count` is their number.

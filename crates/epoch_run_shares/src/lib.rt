@@ -3,16 +3,13 @@
 //! `run_share` runs the control program by itself. It passes the first activations without running them, which tells no more than where the
 //! windows of the next ones lie, and runs those behind them, each on the input and on what others of its share wrote. So several
 //! shares of one run go on at once. What one of them comes to is an `Apart` of `epoch_run_in_order`: whatever the activations before it come to,
-//! those that ran end so among all that the control program creates. Put behind one another, shares make the whole run. `Cursors` are where
-//! the streams stand behind claims.
+//! those that ran end so among all that the control program creates. Put behind one another, shares make the whole run.
 #![tactic(auto)]
 
-mod cursors;
 mod positions;
 mod running;
 mod share;
 mod walk;
 
-pub use cursors::Cursors;
 pub use share::run_share;
 pub use walk::STRETCH;

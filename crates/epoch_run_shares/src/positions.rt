@@ -3,15 +3,14 @@
 ghost use Rattle.std.specs.Prelude.{◌≡◌, ◌∷◌, ◌++◌, ℕ, [], IfOk, List, OnOk, length, map};
 ghost use Rattle.flow_core_laws.specs.Window.{windows_of};
 ghost use Rattle.flow_core_laws.specs.declared.activation.Activation.{Activation};
+ghost use Rattle.stream_match_layouts.specs.Cursors.{HasCursors};
 ghost use Rattle.stream_match_layouts.specs.Layout.{span_of};
-ghost use Rattle.epoch_run_shares.specs.Cursors.{HasCursors};
 ghost use Rattle.epoch_run_shares.specs.Positions.{HasTaken, HavePassed, PassMore};
 
-use crate::cursors::Cursors;
 use flow_core_laws::{Activation, Claim};
-use os_io::{List, Memory};
+use os_io::Memory;
 use std::alloc::Global;
-use stream_match_layouts::Span;
+use stream_match_layouts::{Cursors, Span};
 
 /// Where the streams stand behind activations that were passed, and the windows of the last of these. It holds nothing of the ones before.
 #[derive(Drop)]
@@ -29,19 +28,11 @@ impl Positions {
     pub(crate) fn new(alloc: Global, streams: u32) -> Result<Positions, Memory>
         ensures { IfOk result (HavePassed streams []) }
     {
-        let mut positions = Positions {
+        Ok(Positions {
             spans: Vec::new(alloc),
-            cursors: Cursors {
-                reads: List::with_capacity(alloc, streams as usize)?,
-                writes: List::with_capacity(alloc, streams as usize)?,
-            },
+            cursors: Cursors::new(alloc, streams)?,
             count: 0,
-        };
-        for _ in 0..streams {
-            positions.cursors.reads.push(0)?;
-            positions.cursors.writes.push(0)?;
-        }
-        Ok(positions)
+        })
     }
 
     /// Passes the next activations, one by one. After `Memory` it may hold anything, and is to be given up.

@@ -269,7 +269,7 @@ fn count_all(layout: &Layout, ends: &Ends) -> Counts
         activations: layout.starts.len() as u64 - 1,
         done: count_done(ends.ends.as_slice()),
         there: written_length(ends.output.as_slice()) as u64,
-        claimed: layout.writes.as_slice()[1],
+        claimed: layout.cursors.writes.as_slice()[1],
     }
 }
 

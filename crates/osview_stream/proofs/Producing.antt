@@ -17,7 +17,7 @@ use Rattle.stream_match_layouts.specs.declared.span.Span.{Span}
 
 -- the cursor of a stream that is there
 pub claimed_of : (layout : Layout) (activations : List Activation) → IsLayoutOf layout activations → (stream : ℕ) → stream < length layout.writers
-    → get_or layout.writes stream 0 ≡ written_count activations stream
+    → get_or layout.cursors.writes stream 0 ≡ written_count activations stream
 claimed_of layout activations of stream exists =
     ap (λ xs. get_or xs stream 0) of.of_windows.writes
     ∙ get_or-map-range_with_len (λ s. write_cursor s (claims_in (windows activations))) 0 (length layout.writers) stream stream 0 exists (zero-add stream)
@@ -67,5 +67,5 @@ none_claimed layout is activations of stream past =
     ∙ none_in (length layout.writers) stream (claims_of is.activations) is.lawful.claims_are_lawful past
 
 -- as many cursors as streams
-pub length-writes : (layout : Layout) (activations : List Activation) → IsLayoutOf layout activations → length layout.writes ≡ length layout.writers
+pub length-writes : (layout : Layout) (activations : List Activation) → IsLayoutOf layout activations → length layout.cursors.writes ≡ length layout.writers
 length-writes layout activations of = ap length of.of_windows.writes ∙ length-map-range_with_len _ 0 (length layout.writers)

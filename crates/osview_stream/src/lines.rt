@@ -114,7 +114,7 @@ fn written_count(layout: &Layout, stream: u32) -> u64
     ensures count { (activations : List Activation) → IsLayoutOf layout.now activations
         → result ≡ written_count activations stream }
 {
-    match layout.writes.as_slice().get(stream as usize) {
+    match layout.cursors.writes.as_slice().get(stream as usize) {
         Some(count) => *count,
         None => 0,
     }

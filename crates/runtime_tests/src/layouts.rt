@@ -50,8 +50,8 @@ impl Case<'_> {
     fn has_layout(&self, rt: &impl Abort, layout: &Layout) {
         are_same(rt, layout.spans.as_slice(), self.spans);
         are_same(rt, layout.starts.as_slice(), self.starts);
-        are_same(rt, layout.reads.as_slice(), self.reads);
-        are_same(rt, layout.writes.as_slice(), self.writes);
+        are_same(rt, layout.cursors.reads.as_slice(), self.reads);
+        are_same(rt, layout.cursors.writes.as_slice(), self.writes);
         have_rows(rt, layout.writers.as_slice(), self.writers);
     }
 

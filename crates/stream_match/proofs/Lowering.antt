@@ -88,13 +88,13 @@ firsts_of_frames layout activations of stream (f ∷ frames) exist =
     ∙ ap (map (λ (w : Window). w.first)) (sym (filter-append (λ (w : Window). is_read_of stream w.claim) (windows_of activations f) (flat_map (windows_of activations) frames)))
 
 -- the cursors of all streams
-pub cursors_are : (layout : Layout) (activations : List Activation) → IsLayoutOf layout activations → (frames cursors : List ℕ) → ((f : ℕ) → Has frames f → f < length activations) → length cursors ≡ length layout.reads → ((stream : ℕ) → slice_index cursors stream ≡ fold min (slice_index layout.reads stream) (frame_firsts layout stream frames)) → cursors ≡ map (read_from activations frames) (range_with_len 0 (length layout.writers))
+pub cursors_are : (layout : Layout) (activations : List Activation) → IsLayoutOf layout activations → (frames cursors : List ℕ) → ((f : ℕ) → Has frames f → f < length activations) → length cursors ≡ length layout.cursors.reads → ((stream : ℕ) → slice_index cursors stream ≡ fold min (slice_index layout.cursors.reads stream) (frame_firsts layout stream frames)) → cursors ≡ map (read_from activations frames) (range_with_len 0 (length layout.writers))
 cursors_are layout activations of frames cursors exist len lowered_to = same_lists cursors (map (read_from activations frames) (range_with_len 0 n)) (len ∙ l ∙ sym (length-map-range_with_len (read_from activations frames) 0 n)) (λ k d lt. at k d (omega (arith, len, l)) lt)
   where
     n : ℕ
     n = length layout.writers
 
-    l : length layout.reads ≡ length layout.writers
+    l : length layout.cursors.reads ≡ length layout.writers
     l = ap length of.of_windows.reads ∙ length-map-range_with_len (λ stream. read_cursor stream (claims_in (windows activations))) 0 n
 
     at : (k d : ℕ) → k < length layout.writers → k < length cursors → get_or cursors k d ≡ get_or (map (read_from activations frames) (range_with_len 0 (length layout.writers))) k d
@@ -106,11 +106,11 @@ cursors_are layout activations of frames cursors exist len lowered_to = same_lis
         ∙ sym (get_or-map-range_with_len (read_from activations frames) 0 n k k d lt (omega arith))
 
 -- each stream has a read cursor
-pub length-reads : (layout : Layout) (is : IsLayout layout) → length layout.reads ≡ length layout.writers
+pub length-reads : (layout : Layout) (is : IsLayout layout) → length layout.cursors.reads ≡ length layout.writers
 length-reads layout is = ap length is.is_of.of_windows.reads ∙ length-map-range_with_len (λ stream. read_cursor stream (claims_in (windows is.activations))) 0 (length layout.writers)
 
 -- a frame's spans can lower the cursors
-pub may_lower : (layout : Layout) (is : IsLayout layout) (f : ℕ) (spans : List Span) (cursors : List ℕ) → f < frame_count layout → spans ≡ spans_of layout f → length cursors ≡ length layout.reads → All (λ (s : Span). s.stream < length cursors) spans
+pub may_lower : (layout : Layout) (is : IsLayout layout) (f : ℕ) (spans : List Span) (cursors : List ℕ) → f < frame_count layout → spans ≡ spans_of layout f → length cursors ≡ length layout.cursors.reads → All (λ (s : Span). s.stream < length cursors) spans
 may_lower layout is f spans cursors lt is_spans len =
     let n : length layout.writers ≡ length cursors = sym (len ∙ length-reads layout is) in
     subst (λ (ss : List Span). All (λ (s : Span). s.stream < length cursors) ss) (sym is_spans) (subst (λ m. All (λ (s : Span). s.stream < m) (spans_of layout f)) n (streams_exist layout is f lt))

@@ -115,7 +115,7 @@ module _ (layout : Layout) (is : IsLayout layout) where
       sink : plan_reads plan (length activations) ≡ map (stream_source activations input) (output_places activations)
       sink =
           let n = frame_count-is layout activations of in
-          let count : get_or layout.writes 1 0 ≡ written_count activations 1 = ap (λ xs. get_or xs 1 0) of.of_windows.writes ∙ get_or-map-range_with_len (λ t. write_cursor t (claims_in (windows activations))) 0 (length layout.writers) 1 1 0 (let t = is.has_output in omega arith) (zero-add 1) ∙ ap (write_cursor 1) (claims_in-windows activations) in
+          let count : get_or layout.cursors.writes 1 0 ≡ written_count activations 1 = ap (λ xs. get_or xs 1 0) of.of_windows.writes ∙ get_or-map-range_with_len (λ t. write_cursor t (claims_in (windows activations))) 0 (length layout.writers) 1 1 0 (let t = is.has_output in omega arith) (zero-add 1) ∙ ap (write_cursor 1) (claims_in-windows activations) in
           ap (plan_reads plan) (let e : length activations ≡ length (all_frames layout) = omega (arith, n, count_is) in e)
           ∙ reads_over layout is activations of input (all_frames layout) [] (output_reach layout ∷ []) exist fits are outside plan laid (length (all_frames layout)) (omega arith)
           ∙ ap (λ rs. map (epoch_source activations input (all_frames layout) []) (flat_map reach_places rs)) (reaches-sink layout is activations of input (all_frames layout) [] (output_reach layout ∷ []) exist fits are outside)

@@ -16,7 +16,7 @@ abbrev pub all_frames : Layout → List ℕ
 all_frames layout = range_with_len 0 (frame_count layout)
 
 abbrev pub output_reach : Layout → Reach
-output_reach layout = record { stream = 1; first = 0; count = slice_index layout.writes 1 }
+output_reach layout = record { stream = 1; first = 0; count = slice_index layout.cursors.writes 1 }
 
 abbrev pub whole_weave : Layout → List ℕ → Weave
 whole_weave layout input = weave_over layout input (all_frames layout) [] (output_reach layout ∷ [])

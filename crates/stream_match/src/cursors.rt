@@ -18,7 +18,7 @@ pub fn read_cursors(alloc: Global, layout: &Layout, frames: &[u32]) -> Result<Ve
     ensures { IfOk result (λ cursors. (activations : List Activation) → IsLayoutOf layout.now activations
         → cursors.items ≡ map (read_from activations frames.now) (range_with_len 0 (length layout.now.writers))) }
 {
-    let mut cursors = Vec::from_slice(alloc, layout.reads.as_slice())?;
+    let mut cursors = Vec::from_slice(alloc, layout.cursors.reads.as_slice())?;
     for frame in frames {
         lower(&mut cursors, layout.spans_of(*frame as usize));
     }

@@ -63,7 +63,7 @@ fn output(alloc: Global, layout: &Layout, frames: &[u32], next: u32) -> Result<L
     requires next { next ≡ reads_before layout.now (all_frames layout.now) (length (all_frames layout.now)) }
     ensures { IfOk result (IsLeft layout.now (all_frames layout.now) (output_reach layout.now ∷ [])) }
 {
-    let count = layout.writes.as_slice()[1];
+    let count = layout.cursors.writes.as_slice()[1];
     let mut left = Reaching {
         stretches: List::new(alloc),
         next,

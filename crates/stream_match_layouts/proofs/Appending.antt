@@ -13,6 +13,7 @@ use Rattle.flow_core_laws.specs.declared.activation.Activation.{Activation}
 use Rattle.flow_core_laws.specs.FirstPosition.{first_position}
 use Rattle.flow_core_laws.specs.Window.{Window, windows, window_of, claims_of, claim_at, no_claim, offset_after}
 use Rattle.flow_core_laws.proofs.Windows.{length-windows}
+use Rattle.stream_match_layouts.specs.declared.cursors.Cursors.{Cursors}
 use Rattle.stream_match_layouts.specs.declared.layout.Layout.{Layout}
 use Rattle.stream_match_layouts.specs.Lawful.{IsLawfulClaim, AreLawful}
 use Rattle.stream_match_layouts.specs.Layout.{span_of, claims_in, IsOfWindows, IsLayoutOf, starts_of}
@@ -110,7 +111,7 @@ starts-push before x =
 pub added_activation : (layout now : Layout) (x : Activation) (frame : ℕ) (starts : List ℕ) → frame ≡ length layout.starts - 1 → starts ≡ layout.starts ++ length now.spans ∷ []
     → ((ws : List Window) → IsOfWindows layout ws → IsOfWindows now (ws ++ first_windows frame (claims_in ws) x.claims (length x.claims)))
     → (before : List Activation) → IsLayoutOf layout before
-    → IsLayoutOf (record { spans = now.spans; starts = starts; writers = now.writers; reads = now.reads; writes = now.writes; input_len = now.input_len }) (before ++ x ∷ [])
+    → IsLayoutOf (record { spans = now.spans; starts = starts; writers = now.writers; cursors = now.cursors; input_len = now.input_len }) (before ++ x ∷ [])
 added_activation layout now x frame starts frame_is starts_is added before is_of =
     let count : length layout.starts ≡ length before + 1 = ap length is_of.starts ∙ length-map-range_with_len (λ a. length (claims_of (take a before))) 0 (length before + 1) in
     let f : frame ≡ length before = omega arith in
@@ -143,20 +144,21 @@ takes_next layout now acts k x t lt is streams added =
 
 -- ---- the layout of no activation
 
-replicate-is : {X : Type 0} (a n : ℕ) (x : X) → replicate n x ≡ map (λ k. x) (range_with_len a n)
+pub replicate-is : {X : Type 0} (a n : ℕ) (x : X) → replicate n x ≡ map (λ k. x) (range_with_len a n)
 replicate-is a zero x = refl
 replicate-is a (suc n) x = ap (λ xs. x ∷ xs) (replicate-is (a + 1) n x)
 
-pub is_empty : (layout : Layout) (n : ℕ) → layout.spans ≡ [] → layout.starts ≡ 0 ∷ [] → layout.writers ≡ replicate n [] → layout.reads ≡ replicate n 0 → layout.writes ≡ replicate n 0 → IsLayoutOf layout []
+pub is_empty : (layout : Layout) (n : ℕ) → layout.spans ≡ [] → layout.starts ≡ 0 ∷ [] → layout.writers ≡ replicate n []
+    → layout.cursors ≡ record { reads = replicate n 0; writes = replicate n 0 } → IsLayoutOf layout []
 unfolding windows
-is_empty layout n spans starts writers reads writes =
+is_empty layout n spans starts writers cursors =
     let len : length layout.writers ≡ n = ap length writers ∙ length-replicate n [] in
     record {
       of_windows = record {
         spans = spans;
         writers = writers ∙ replicate-is 0 n [] ∙ ap (λ m. map (λ k. []) (range_with_len 0 m)) (sym len);
-        reads = reads ∙ replicate-is 0 n 0 ∙ ap (λ m. map (λ k. 0) (range_with_len 0 m)) (sym len);
-        writes = writes ∙ replicate-is 0 n 0 ∙ ap (λ m. map (λ k. 0) (range_with_len 0 m)) (sym len);
+        reads = ap (λ (c : Cursors). c.reads) cursors ∙ replicate-is 0 n 0 ∙ ap (λ m. map (λ k. 0) (range_with_len 0 m)) (sym len);
+        writes = ap (λ (c : Cursors). c.writes) cursors ∙ replicate-is 0 n 0 ∙ ap (λ m. map (λ k. 0) (range_with_len 0 m)) (sym len);
       };
       starts = starts;
     }

@@ -73,9 +73,11 @@ has_room layout ws claim rest of lawful positions cursors =
     let spans : length layout.spans ≡ length cs = ap length of.spans ∙ length-map ws span_of ∙ sym (length-map ws (λ (w : Window). w.claim)) in
     record {
       stream_exists = exists;
-      reads_of_streams = ap length of.reads ∙ length-map-range_with_len (λ s. read_cursor s cs) 0 n;
-      writes_of_streams = ap length of.writes ∙ length-map-range_with_len (λ s. write_cursor s cs) 0 n;
+      cursors = record {
+        read_cursor_exists = omega (arith, exists, ap length of.reads ∙ length-map-range_with_len (λ s. read_cursor s cs) 0 n);
+        write_cursor_exists = omega (arith, exists, ap length of.writes ∙ length-map-range_with_len (λ s. write_cursor s cs) 0 n);
+        read_cursor_fits = omega (arith, read_at layout ws of claim exists, read_cursor-le claim.stream cs, b, b');
+        write_cursor_fits = omega (arith, write_at layout ws of claim exists, write_cursor-le claim.stream cs, h, h');
+      };
       spans_are_few = omega (arith, spans, count, h);
-      read_cursor_fits = omega (arith, read_at layout ws of claim exists, read_cursor-le claim.stream cs, b, b');
-      write_cursor_fits = omega (arith, write_at layout ws of claim exists, write_cursor-le claim.stream cs, h, h');
     }

@@ -15,7 +15,8 @@ use Rattle.flow_core_laws.proofs.Stretches.{slice_get-append_left, slice_get-app
 use Rattle.stream_match_layouts.specs.declared.span.Span.{Span}
 use Rattle.stream_match_layouts.specs.declared.layout.Layout.{Layout}
 use Rattle.stream_match_layouts.specs.Layout.{span_of, writes_at, writers_of, claims_in, IsOfWindows}
-use Rattle.stream_match_layouts.specs.Adding.{first_by, writers_after, with_claim}
+use Rattle.stream_match_layouts.specs.Cursors.{first_of}
+use Rattle.stream_match_layouts.specs.Adding.{writers_after, with_claim}
 
 -- ---- lists with an element for each number
 
@@ -111,20 +112,20 @@ length-writers_after layout claim = at claim.write
 
 module _ (layout : Layout) (ws : List Window) (of : IsOfWindows layout ws) (claim : Claim) (exists : claim.stream < length layout.writers) where
   -- the cursors of the claim's stream
-  pub read_at : get_or layout.reads claim.stream 0 ≡ read_cursor claim.stream (claims_in ws)
+  pub read_at : get_or layout.cursors.reads claim.stream 0 ≡ read_cursor claim.stream (claims_in ws)
   read_at = ap (λ xs. get_or xs claim.stream 0) of.reads ∙ get_or-map-range_with_len (λ s. read_cursor s (claims_in ws)) 0 (length layout.writers) claim.stream claim.stream 0 exists (zero-add claim.stream)
 
-  pub write_at : get_or layout.writes claim.stream 0 ≡ write_cursor claim.stream (claims_in ws)
+  pub write_at : get_or layout.cursors.writes claim.stream 0 ≡ write_cursor claim.stream (claims_in ws)
   write_at = ap (λ xs. get_or xs claim.stream 0) of.writes ∙ get_or-map-range_with_len (λ s. write_cursor s (claims_in ws)) 0 (length layout.writers) claim.stream claim.stream 0 exists (zero-add claim.stream)
 
   pub writers_at : get_or layout.writers claim.stream [] ≡ writers_of ws claim.stream
   writers_at = ap (λ xs. get_or xs claim.stream []) of.writers ∙ get_or-map-range_with_len (writers_of ws) 0 (length layout.writers) claim.stream claim.stream [] exists (zero-add claim.stream)
 
   -- the claim begins where its stream's cursor stands
-  pub first_by-is : first_by layout claim ≡ first_position (claims_in ws) claim
-  first_by-is = at claim.write
+  pub first_of-is : first_of layout.cursors claim ≡ first_position (claims_in ws) claim
+  first_of-is = at claim.write
     where
-      at : (b : Bool) → cond b (get_or layout.writes claim.stream 0) (get_or layout.reads claim.stream 0 + claim.skip) ≡ cond b (write_cursor claim.stream (claims_in ws)) (claim.skip + read_cursor claim.stream (claims_in ws))
+      at : (b : Bool) → cond b (get_or layout.cursors.writes claim.stream 0) (get_or layout.cursors.reads claim.stream 0 + claim.skip) ≡ cond b (write_cursor claim.stream (claims_in ws)) (claim.skip + read_cursor claim.stream (claims_in ws))
       at true = write_at
       at false = omega (arith, read_at)
 
@@ -138,31 +139,31 @@ module _ (layout : Layout) (ws : List Window) (of : IsOfWindows layout ws) (clai
   same_stream : (claim.stream == claim.stream) ≡ true
   same_stream = eq-eqb claim.stream claim.stream refl
 
-  reads-push : (b : Bool) → claim.write ≡ b → cond b layout.reads (set layout.reads claim.stream (first_by layout claim + claim.burst)) ≡ map (λ s. read_cursor s (claims_in ws ++ claim ∷ [])) (range_with_len 0 (length layout.writers))
+  reads-push : (b : Bool) → claim.write ≡ b → cond b layout.cursors.reads (set layout.cursors.reads claim.stream (first_of layout.cursors claim + claim.burst)) ≡ map (λ s. read_cursor s (claims_in ws ++ claim ∷ [])) (range_with_len 0 (length layout.writers))
   reads-push true e =
       of.reads ∙ map-range-same (λ s. read_cursor s (claims_in ws)) (λ s. read_cursor s (claims_in ws ++ claim ∷ [])) 0 (length layout.writers)
       (λ s l u. let p = read_cursor-push s (claims_in ws) claim in let q : cond (is_read_of s claim) (claim.skip + claim.burst) 0 ≡ 0 = ap (λ b. cond (not b && claim.stream == s) (claim.skip + claim.burst) 0) e in omega (arith, p, q))
   reads-push false e =
-      ap (λ xs. set xs claim.stream (first_by layout claim + claim.burst)) of.reads
-      ∙ map-range-set (λ s. read_cursor s (claims_in ws)) (λ s. read_cursor s (claims_in ws ++ claim ∷ [])) (length layout.writers) claim.stream (first_by layout claim + claim.burst) exists
+      ap (λ xs. set xs claim.stream (first_of layout.cursors claim + claim.burst)) of.reads
+      ∙ map-range-set (λ s. read_cursor s (claims_in ws)) (λ s. read_cursor s (claims_in ws ++ claim ∷ [])) (length layout.writers) claim.stream (first_of layout.cursors claim + claim.burst) exists
       (let p = read_cursor-push claim.stream (claims_in ws) claim in
       let q : cond (is_read_of claim.stream claim) (claim.skip + claim.burst) 0 ≡ claim.skip + claim.burst = ap (λ b. cond (not b && claim.stream == claim.stream) (claim.skip + claim.burst) 0) e ∙ ap (λ b. cond b (claim.skip + claim.burst) 0) same_stream in
-      let f : first_by layout claim ≡ get_or layout.reads claim.stream 0 + claim.skip = ap (λ b. cond b (get_or layout.writes claim.stream 0) (get_or layout.reads claim.stream 0 + claim.skip)) e in
+      let f : first_of layout.cursors claim ≡ get_or layout.cursors.reads claim.stream 0 + claim.skip = ap (λ b. cond b (get_or layout.cursors.writes claim.stream 0) (get_or layout.cursors.reads claim.stream 0 + claim.skip)) e in
       omega (arith, p, q, f, read_at))
       (λ j other. let p = read_cursor-push j (claims_in ws) claim in
       let q : cond (is_read_of j claim) (claim.skip + claim.burst) 0 ≡ 0 = ap (λ b. cond (not claim.write && b) (claim.skip + claim.burst) 0) (other_stream j other) ∙ ap (λ b. cond (not b && false) (claim.skip + claim.burst) 0) e in
       omega (arith, p, q))
 
-  writes-push : (b : Bool) → claim.write ≡ b → cond b (set layout.writes claim.stream (first_by layout claim + claim.horizon)) layout.writes ≡ map (λ s. write_cursor s (claims_in ws ++ claim ∷ [])) (range_with_len 0 (length layout.writers))
+  writes-push : (b : Bool) → claim.write ≡ b → cond b (set layout.cursors.writes claim.stream (first_of layout.cursors claim + claim.horizon)) layout.cursors.writes ≡ map (λ s. write_cursor s (claims_in ws ++ claim ∷ [])) (range_with_len 0 (length layout.writers))
   writes-push false e =
       of.writes ∙ map-range-same (λ s. write_cursor s (claims_in ws)) (λ s. write_cursor s (claims_in ws ++ claim ∷ [])) 0 (length layout.writers)
       (λ s l u. let p = write_cursor-push s (claims_in ws) claim in let q : cond (is_write_to s claim) claim.horizon 0 ≡ 0 = ap (λ b. cond (b && claim.stream == s) claim.horizon 0) e in omega (arith, p, q))
   writes-push true e =
-      ap (λ xs. set xs claim.stream (first_by layout claim + claim.horizon)) of.writes
-      ∙ map-range-set (λ s. write_cursor s (claims_in ws)) (λ s. write_cursor s (claims_in ws ++ claim ∷ [])) (length layout.writers) claim.stream (first_by layout claim + claim.horizon) exists
+      ap (λ xs. set xs claim.stream (first_of layout.cursors claim + claim.horizon)) of.writes
+      ∙ map-range-set (λ s. write_cursor s (claims_in ws)) (λ s. write_cursor s (claims_in ws ++ claim ∷ [])) (length layout.writers) claim.stream (first_of layout.cursors claim + claim.horizon) exists
       (let p = write_cursor-push claim.stream (claims_in ws) claim in
       let q : cond (is_write_to claim.stream claim) claim.horizon 0 ≡ claim.horizon = ap (λ b. cond (b && claim.stream == claim.stream) claim.horizon 0) e ∙ ap (λ b. cond b claim.horizon 0) same_stream in
-      let f : first_by layout claim ≡ get_or layout.writes claim.stream 0 = ap (λ b. cond b (get_or layout.writes claim.stream 0) (get_or layout.reads claim.stream 0 + claim.skip)) e in
+      let f : first_of layout.cursors claim ≡ get_or layout.cursors.writes claim.stream 0 = ap (λ b. cond b (get_or layout.cursors.writes claim.stream 0) (get_or layout.cursors.reads claim.stream 0 + claim.skip)) e in
       omega (arith, p, q, f, write_at))
       (λ j other. let p = write_cursor-push j (claims_in ws) claim in
       let q : cond (is_write_to j claim) claim.horizon 0 ≡ 0 = ap (λ b. cond (claim.write && b) claim.horizon 0) (other_stream j other) ∙ ap (λ b. cond (b && false) claim.horizon 0) e in
@@ -186,8 +187,8 @@ module _ (layout : Layout) (ws : List Window) (of : IsOfWindows layout ws) (clai
   is_of_push frame offset w is =
       let claim_is : w.claim ≡ claim = ap (λ (v : Window). v.claim) is in
       let cs : claims_in (ws ++ w ∷ []) ≡ claims_in ws ++ claim ∷ [] = claims_in-push ws w ∙ ap (λ (c : Claim). claims_in ws ++ c ∷ []) claim_is in
-      let span : record { frame = frame; stream = claim.stream; write = claim.write; first = first_by layout claim; count = claim.horizon; offset = offset } ≡ span_of w =
-      ap (λ n. record { frame = frame; stream = claim.stream; write = claim.write; first = n; count = claim.horizon; offset = offset }) first_by-is ∙ ap span_of (sym is) in
+      let span : record { frame = frame; stream = claim.stream; write = claim.write; first = first_of layout.cursors claim; count = claim.horizon; offset = offset } ≡ span_of w =
+      ap (λ n. record { frame = frame; stream = claim.stream; write = claim.write; first = n; count = claim.horizon; offset = offset }) first_of-is ∙ ap span_of (sym is) in
       record {
         spans = ap (λ (s : Span). layout.spans ++ s ∷ []) span ∙ ap (λ xs. xs ++ span_of w ∷ []) of.spans ∙ sym (map-append span_of ws (w ∷ []));
         writers = writers-push w claim_is claim.write refl ∙ ap (λ n. map (writers_of (ws ++ w ∷ [])) (range_with_len 0 n)) (sym (length-writers_after layout claim));

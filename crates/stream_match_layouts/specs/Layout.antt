@@ -31,8 +31,8 @@ claims_in windows = map (λ (w : Window). w.claim) windows
 pub record IsOfWindows (layout : Layout) (windows : List Window) : Type 0 where
   pub spans : layout.spans ≡ map span_of windows
   pub writers : layout.writers ≡ map (writers_of windows) (range_with_len 0 (length layout.writers))
-  pub reads : layout.reads ≡ map (λ stream. read_cursor stream (claims_in windows)) (range_with_len 0 (length layout.writers))
-  pub writes : layout.writes ≡ map (λ stream. write_cursor stream (claims_in windows)) (range_with_len 0 (length layout.writers))
+  pub reads : layout.cursors.reads ≡ map (λ stream. read_cursor stream (claims_in windows)) (range_with_len 0 (length layout.writers))
+  pub writes : layout.cursors.writes ≡ map (λ stream. write_cursor stream (claims_in windows)) (range_with_len 0 (length layout.writers))
 
 -- where the spans of each activation begin, and where those of the last one end
 abbrev pub starts_of : List Activation → List ℕ

@@ -1,9 +1,10 @@
 -- What a reader believes: the activations that are taken, and what a layout says of them,
 pub mod Lawful
 pub mod Layout
--- its spans by activation, and the write spans of a stream.
+-- its spans by activation, the write spans of a stream,
 pub mod Spans
 pub mod Writers
--- What restates private functions: how a claim moves cursors, and adding a claim.
+-- and how a claim moves the cursors of streams.
 pub mod Cursors
+-- What restates private functions: adding a claim.
 pub mod Adding

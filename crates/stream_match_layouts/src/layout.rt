@@ -1,13 +1,9 @@
-ghost use Rattle.std.specs.Prelude.{◌≡◌, ℕ, [], ◌∷◌, ◌++◌, ◌+◌, ◌^◌, ◌<◌, ◌≤◌, List, IfOk, OnOk};
-ghost use Rattle.std.specs.Prelude.{length, slice_index, slice_set, slice_index_or, map, replicate};
+ghost use Rattle.std.specs.Prelude.{◌≡◌, [], ◌∷◌, ◌++◌, ◌<◌, ◌≤◌, List, IfOk, OnOk, length, slice_set, slice_index_or};
 ghost use Rattle.flow_core_laws.specs.declared.activation.Activation.{Activation};
-ghost use Rattle.flow_core_laws.specs.FirstPosition.{first_position};
-ghost use Rattle.flow_core_laws.specs.Window.{Window, windows_behind};
-ghost use Rattle.stream_match_layouts.specs.Lawful.{AreLawful};
-ghost use Rattle.stream_match_layouts.specs.Layout.{claims_in, IsOfWindows, IsLayoutOf};
-ghost use Rattle.stream_match_layouts.specs.Layout.{TakesMore};
+ghost use Rattle.stream_match_layouts.specs.Layout.{IsLayoutOf, TakesMore};
 ghost use Rattle.stream_match_layouts.specs.Adding.{HasRoom, with_claim};
 
+use crate::cursors::Cursors;
 use crate::span::Span;
 use flow_core_laws::{Activation, Claim};
 use os_io::{List, Memory};
@@ -26,10 +22,8 @@ pub struct Layout {
     pub starts: List<u32>,
     /// For each stream the numbers of its write spans, in order of position.
     pub writers: List<List<u32>>,
-    /// The read cursor of each stream.
-    pub reads: List<u64>,
-    /// The write cursor of each stream: how many of its positions are claimed for writing.
-    pub writes: List<u64>,
+    /// Where the streams stand behind all claims.
+    pub cursors: Cursors,
     /// How many elements the input has.
     pub input_len: u32,
 }
@@ -46,19 +40,14 @@ impl Layout {
             spans: List::new(alloc),
             starts: List::new(alloc),
             writers: List::new(alloc),
-            reads: List::new(alloc),
-            writes: List::new(alloc),
+            cursors: Cursors::new(alloc, streams)?,
             input_len,
         };
         layout.spans.reserve(ROOM)?;
         layout.starts.push(0)?;
         layout.writers.reserve(streams as usize)?;
-        layout.reads.reserve(streams as usize)?;
-        layout.writes.reserve(streams as usize)?;
         for _ in 0..streams {
             layout.writers.push(List::new(alloc))?;
-            layout.reads.push(0)?;
-            layout.writes.push(0)?;
         }
         Ok(layout)
     }
@@ -124,26 +113,12 @@ impl Layout {
         requires { HasRoom self.old claim.now }
         ensures { OnOk result (self.new ≡ with_claim self.old frame claim.now offset) }
     {
-        let stream = claim.stream as usize;
-        let number = self.spans.len() as u32;
-        let first = if claim.write {
-            let first = self.writes.as_slice()[stream];
-            set(&mut self.writes, stream, first + u64::from(claim.horizon));
-            add_writer(&mut self.writers, stream, number)?;
-            first
-        } else {
-            let first = self.reads.as_slice()[stream] + claim.skip;
-            set(&mut self.reads, stream, first + u64::from(claim.burst));
-            first
-        };
-        self.spans.push(Span {
-            first,
-            count: claim.horizon,
-            offset,
-            stream: claim.stream,
-            frame,
-            write: claim.write,
-        })?;
+        if claim.write {
+            let number = self.spans.len() as u32;
+            add_writer(&mut self.writers, claim.stream as usize, number)?;
+        }
+        let span = self.cursors.take(frame, claim, offset);
+        self.spans.push(span)?;
         Ok(())
     }
 }
@@ -155,14 +130,6 @@ fn claims_of(activations: &[Activation]) -> usize {
         claims = claims.saturating_add(activation.claims.len());
     }
     claims
-}
-
-/// Sets a cursor.
-fn set(cursors: &mut List<u64>, stream: usize, cursor: u64)
-    requires { stream < length cursors.old }
-    ensures { cursors.new ≡ slice_set cursors.old stream cursor }
-{
-    cursors.as_mut_slice()[stream] = cursor;
 }
 
 /// Adds a writer of a stream.

@@ -12,7 +12,7 @@ returns-in_err-activation_lines-clause-err g c = λ activations of.
     let control = c.args.control.now in
     let two : 1 < length l.writers = let h = c.requires.layout.has_output in omega arith in
     let count = length (written ends.output) in
-    let claimed = get_or l.writes 1 0 in
+    let claimed = get_or l.cursors.writes 1 0 in
     let whole = report_is l activations of two l.input_len ends control count claimed refl refl in
     told_err c.from_residual.result (out [] (control_line control ++ (output_line count claimed ++ [])) _ _ c.from_residual.ensures.1 (λ y q. q) (c.in_err-activation_lines.ensures activations of).err whole) c.new-buffer.ensures
 
@@ -23,7 +23,7 @@ returns-in_err-control-clause-err g c = λ activations of.
     let control = c.args.control.now in
     let two : 1 < length l.writers = let h = c.requires.layout.has_output in omega arith in
     let count = length (written ends.output) in
-    let claimed = get_or l.writes 1 0 in
+    let claimed = get_or l.cursors.writes 1 0 in
     let whole = report_is l activations of two l.input_len ends control count claimed refl refl in
     told_err c.from_residual-in_err-control.result (on (c.in_ok-activation_lines.ensures activations of).ok (out [] (output_line count claimed ++ []) _ _ c.from_residual-in_err-control.ensures.1 (λ y q. q) c.in_err-control.ensures.err refl) whole) c.new-buffer.ensures
 

@@ -9,4 +9,4 @@ lower-requires c = may_lower c.args.layout.now c.requires.layout (slice_index c.
 
 pub returns : goal.returns
 returns c = λ activations of. cursors_are c.args.layout.now activations of c.args.frames.now c.loop-frame.cursors.items (frames_exist c.args.layout.now activations of c.args.frames.now c.requires.exist) c.loop-frame.invariant.length
-    (λ stream. c.loop-frame.invariant.lowered stream ∙ ap (λ fs. fold min (slice_index c.args.layout.now.reads stream) (frame_firsts c.args.layout.now stream fs)) (take_all c.loop-frame.frame-index c.args.frames.now c.loop-frame-test.false))
+    (λ stream. c.loop-frame.invariant.lowered stream ∙ ap (λ fs. fold min (slice_index c.args.layout.now.cursors.reads stream) (frame_firsts c.args.layout.now stream fs)) (take_all c.loop-frame.frame-index c.args.frames.now c.loop-frame-test.false))

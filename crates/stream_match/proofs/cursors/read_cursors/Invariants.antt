@@ -5,6 +5,6 @@ use Rattle.stream_match.proofs.cursors.read_cursors.Given as goal
 
 abbrev pub invariant-loop-frame : goal.invariant-loop-frame
 invariant-loop-frame l = record {
-  length : length l.cursors.items ≡ length l.layout.reads;
-  lowered : (stream : ℕ) → slice_index l.cursors.items stream ≡ fold min (slice_index l.layout.reads stream) (frame_firsts l.layout stream (take l.frame-index l.frames));
+  length : length l.cursors.items ≡ length l.layout.cursors.reads;
+  lowered : (stream : ℕ) → slice_index l.cursors.items stream ≡ fold min (slice_index l.layout.cursors.reads stream) (frame_firsts l.layout stream (take l.frame-index l.frames));
 }

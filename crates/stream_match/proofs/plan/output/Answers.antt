@@ -28,14 +28,14 @@ add-requires c =
     omega (arith, few, total_one (output_reach c.args.layout.now), c.requires.next, ap (λ xs. get_or xs 1 0) c.as_slice.ensures)
 
 -- the stretch of the output
-made : (layout : Layout) (n at count : ℕ) (stretches old : List Stretch) → n ≡ frame_count layout → IsLayout layout → at ≡ reads_before layout (all_frames layout) (length (all_frames layout)) → count ≡ get_or layout.writes 1 0 → old ≡ []
+made : (layout : Layout) (n at count : ℕ) (stretches old : List Stretch) → n ≡ frame_count layout → IsLayout layout → at ≡ reads_before layout (all_frames layout) (length (all_frames layout)) → count ≡ get_or layout.cursors.writes 1 0 → old ≡ []
     → stretches ≡ old ++ with_positions (record { to = n; stream = 1; first = 0; count = count; at = at } ∷ [])
     → stretches ≡ with_positions (stretches_from (length (all_frames layout)) (reads_before layout (all_frames layout) (length (all_frames layout))) (output_reach layout ∷ []))
 made layout n at count stretches old all_are is behind written none step =
     step ∙ ap (λ (xs : List Stretch). xs ++ with_positions (record { to = n; stream = 1; first = 0; count = count; at = at } ∷ [])) none
     ∙ ap (λ m. with_positions (record { to = m; stream = 1; first = 0; count = count; at = at } ∷ [])) (all_are ∙ sym (count_is layout is))
     ∙ ap (λ m. with_positions (record { to = length (all_frames layout); stream = 1; first = 0; count = m; at = at } ∷ [])) written
-    ∙ ap (λ m. with_positions (record { to = length (all_frames layout); stream = 1; first = 0; count = get_or layout.writes 1 0; at = m } ∷ [])) behind
+    ∙ ap (λ m. with_positions (record { to = length (all_frames layout); stream = 1; first = 0; count = get_or layout.cursors.writes 1 0; at = m } ∷ [])) behind
 
 pub gathered-requires-clause-ascend : goal.gathered-requires-clause-ascend
 gathered-requires-clause-ascend c = subst Ascend (sym c.requires.frames) (are c.args.layout.now c.requires.layout).ascend
@@ -57,7 +57,7 @@ returns c =
     let layout = c.args.layout.now in
     let all = all_frames layout in
     let is = c.requires.layout in
-    let k : get_or c.as_slice.result.now 1 0 ≡ get_or layout.writes 1 0 = ap (λ xs. get_or xs 1 0) c.as_slice.ensures in
+    let k : get_or c.as_slice.result.now 1 0 ≡ get_or layout.cursors.writes 1 0 = ap (λ xs. get_or xs 1 0) c.as_slice.ensures in
     record {
       stretches_are = made layout c.frames.result c.args.next (get_or c.as_slice.result.now 1 0) c.add.new.self.stretches c.new.result c.frames.ensures is c.requires.next k c.new.ensures c.in_ok-add.ensures.stretches;
       pieces_are = c.in_ok-pieces.ensures ∙ ap (λ fs. flat_map (pieces_for layout fs) c.as_slice-2.result.now) c.requires.frames ∙ ap (flat_map (pieces_for layout all)) c.as_slice-2.ensures;

@@ -4,12 +4,12 @@ use Rattle.flow_core_laws.specs.declared.claim.Claim.{Claim}
 use Rattle.flow_core_laws.specs.Window.{Window, claim_at}
 use Rattle.stream_match_layouts.specs.declared.layout.Layout.{Layout}
 use Rattle.stream_match_layouts.specs.Layout.{claims_in, IsOfWindows}
-use Rattle.stream_match_layouts.specs.Adding.{HasRoom}
+use Rattle.stream_match_layouts.specs.Cursors.{HasCursors}
 use Rattle.stream_match_layouts.proofs.Windows.{alike, first_windows}
 use Rattle.stream_match_layouts.proofs.Appending.{alike_fits, length-before, before_few, room_at, spans_few, added_claim, alike-more, added_activation}
 use Rattle.epoch_run.specs.NextSpans.{joined}
 use Rattle.epoch_run.specs.declared.next_spans.NextSpans.{NextSpans}
-use Rattle.epoch_run.proofs.LaidBehind.{has_cursors, joined-with_next, length-joined}
+use Rattle.epoch_run.proofs.LaidBehind.{joined-with_next, length-joined}
 use Rattle.epoch_run.proofs.next_spans.NextSpans.add.Goals as goal
 use Rattle.epoch_run.proofs.next_spans.NextSpans.add.Goals.{then-claim+in_ok-take, else-claim+in_ok-take-2}
 
@@ -33,10 +33,9 @@ take-requires c =
     let layout = c.args.layout.now in
     let items = c.as_slice-claim-items.ensures in
     let k = c.loop-claim.claim-index in
-    has_cursors layout c.loop-claim.self (claim_at c.as_slice-claim-items.result.now k)
-    (subst (λ xs. HasRoom (joined layout c.loop-claim.self) (claim_at xs k)) (sym items)
-    (room_at (joined layout c.args.self.now) c.args.activation.now c.requires (joined layout c.loop-claim.self) (c.len.result + c.len-2.result - 1) k (subst (λ xs. k < length xs) items c.loop-claim-test.true)
-    (length-joined layout c.loop-claim.self ∙ sym (length-joined layout c.args.self.now)) c.loop-claim.invariant.added))
+    let room = room_at (joined layout c.args.self.now) c.args.activation.now c.requires (joined layout c.loop-claim.self) (c.len.result + c.len-2.result - 1) k
+    (subst (λ xs. k < length xs) items c.loop-claim-test.true) (length-joined layout c.loop-claim.self ∙ sym (length-joined layout c.args.self.now)) c.loop-claim.invariant.added in
+    subst (λ xs. HasCursors c.loop-claim.self.cursors (claim_at xs k)) (sym items) room.cursors
 
 pub overflow_add-outputs : goal.overflow_add-outputs
 overflow_add-outputs c =
@@ -51,10 +50,9 @@ take-requires-else-claim c =
     let layout = c.args.layout.now in
     let items = c.as_slice-claim-items.ensures in
     let k = c.loop-claim.claim-index in
-    has_cursors layout c.loop-claim.self (claim_at c.as_slice-claim-items.result.now k)
-    (subst (λ xs. HasRoom (joined layout c.loop-claim.self) (claim_at xs k)) (sym items)
-    (room_at (joined layout c.args.self.now) c.args.activation.now c.requires (joined layout c.loop-claim.self) (c.len.result + c.len-2.result - 1) k (subst (λ xs. k < length xs) items c.loop-claim-test.true)
-    (length-joined layout c.loop-claim.self ∙ sym (length-joined layout c.args.self.now)) c.loop-claim.invariant.added))
+    let room = room_at (joined layout c.args.self.now) c.args.activation.now c.requires (joined layout c.loop-claim.self) (c.len.result + c.len-2.result - 1) k
+    (subst (λ xs. k < length xs) items c.loop-claim-test.true) (length-joined layout c.loop-claim.self ∙ sym (length-joined layout c.args.self.now)) c.loop-claim.invariant.added in
+    subst (λ xs. HasCursors c.loop-claim.self.cursors (claim_at xs k)) (sym items) room.cursors
 
 pub overflow_add-inputs : goal.overflow_add-inputs
 overflow_add-inputs c =

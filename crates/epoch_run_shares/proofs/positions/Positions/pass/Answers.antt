@@ -3,9 +3,9 @@ use Rattle.std.specs.Bool.{beq}
 use Rattle.flow_core_laws.specs.declared.activation.Activation.{Activation}
 use Rattle.flow_core_laws.specs.declared.claim.Claim.{Claim}
 use Rattle.flow_core_laws.specs.Window.{claim_at, claims_of}
+use Rattle.stream_match_layouts.specs.Cursors.{HasCursors}
 use Rattle.stream_match_layouts.proofs.Appending.{alike-more}
 use Rattle.stream_match_layouts.proofs.Windows.{alike}
-use Rattle.epoch_run_shares.specs.Cursors.{HasCursors}
 use Rattle.epoch_run_shares.specs.Positions.{HavePassed}
 use Rattle.epoch_run_shares.specs.declared.positions.Positions.{Positions}
 use Rattle.epoch_run_shares.proofs.Passing.{HaveAdded, added_next, alike_fits, all_added, cursors_at, none_added, same_streams, spans_added, stream_exists}
