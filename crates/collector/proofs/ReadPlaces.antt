@@ -6,9 +6,10 @@ use Rattle.std.specs.Option.{option_map, option_or}
 use Rattle.std.proofs.lemmas.Bool.{lt-ltb, le-ltb}
 use Rattle.std.proofs.lemmas.List.FromFn.{get_or-map-range_with_len}
 use Rattle.flow_core_laws.specs.declared.activation.Activation.{Activation}
+use Rattle.flow_core_laws.specs.declared.place.Place.{Place}
 use Rattle.flow_core_laws.specs.declared.task_end.TaskEnd.{TaskEnd}
 use Rattle.flow_core_laws.specs.FirstPosition.{write_cursor}
-use Rattle.flow_core_laws.specs.Place.{Place, places_of, input_places, written_count}
+use Rattle.flow_core_laws.specs.Place.{places_of, input_places, written_count}
 use Rattle.flow_core_laws.specs.There.{missing_place}
 use Rattle.flow_core_laws.specs.Window.{Window, windows, windows_of}
 use Rattle.stream_match_layouts.specs.declared.layout.Layout.{Layout}

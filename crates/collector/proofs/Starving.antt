@@ -17,13 +17,14 @@ use Rattle.flow_core_laws.specs.Poisoning.{poisoning}
 use Rattle.flow_core_laws.specs.Laws.{IsFilled}
 use Rattle.flow_core_laws.specs.Outcome.{outcome_at, State, ends_of, is_done, has_end_at, root_of}
 use Rattle.collector.specs.Status.{has_done}
-use Rattle.flow_core_laws.specs.Place.{Place, input_places, output_places}
+use Rattle.flow_core_laws.specs.Place.{input_places, output_places}
 use Rattle.flow_core_laws.specs.Round.{gathered}
 use Rattle.flow_core_laws.specs.Streams.{stream_ends, stream_meaning, stream_reads, stream_source, stream_element, own_number, input_source, produced_source}
 use Rattle.flow_core_laws.specs.There.{is_there, missing_place}
 use Rattle.flow_core_laws.specs.Window.{Window, producer}
 use Rattle.flow_core_laws.specs.declared.activation.Activation.{Activation}
 use Rattle.flow_core_laws.specs.declared.outcome.Outcome.{Outcome}
+use Rattle.flow_core_laws.specs.declared.place.Place.{Place}
 use Rattle.flow_core_laws.specs.declared.task_end.TaskEnd.{TaskEnd}
 use Rattle.flow_core_laws.specs.declared.task_end.TaskEnd.TheVariants.{Done, Trapped, OverBudget, Poisoned}
 use Rattle.collector.proofs.Firsts.{one_found}

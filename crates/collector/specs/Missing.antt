@@ -2,11 +2,11 @@
 use Rattle.std.specs.Prelude.{◌≡◌, ℕ, ◌+◌, ◌<◌, ◌≤◌, true, List, Option}
 use Rattle.std.specs.Option.{option_map}
 use Rattle.flow_core_laws.specs.declared.activation.Activation.{Activation}
+use Rattle.flow_core_laws.specs.declared.place.Place.{Place}
 use Rattle.flow_core_laws.specs.declared.task_end.TaskEnd.{TaskEnd}
 use Rattle.flow_core_laws.specs.There.{missing_place}
 use Rattle.collector.specs.declared.missing.Missing.{Missing}
 use Rattle.flow_core_laws.specs.Window.{Window, producer}
-use Rattle.flow_core_laws.specs.Place.{Place}
 use Rattle.stream_match_layouts.specs.declared.span.Span.{Span}
 
 -- The activation whose write claim covers a place, or none.

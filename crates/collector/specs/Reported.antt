@@ -2,12 +2,13 @@
 use Rattle.std.specs.Prelude.{◌≡◌, ℕ, List, Option, Some, None, Bool, true, false, not, ◌==◌, if◌then◌else◌, is_some, length, map, slice_index_or}
 use Rattle.std.specs.Option.{option_map_or}
 use Rattle.flow_core_laws.specs.declared.activation.Activation.{Activation}
-use Rattle.flow_core_laws.specs.Place.{Place, output_places}
+use Rattle.flow_core_laws.specs.Place.{output_places}
 use Rattle.flow_core_laws.specs.Window.{Window, producer}
 use Rattle.flow_core_laws.specs.declared.elem.Elem.{Elem}
 use Rattle.flow_core_laws.specs.declared.elem.Elem.TheVariants.{Value, Poison}
 use Rattle.flow_core_laws.specs.declared.task_end.TaskEnd.{TaskEnd}
 use Rattle.flow_core_laws.specs.declared.ends.Ends.{Ends}
+use Rattle.flow_core_laws.specs.declared.place.Place.{Place}
 use Rattle.flow_core_laws.specs.Outcome.{is_done}
 use Rattle.flow_core_laws.specs.There.{is_there}
 

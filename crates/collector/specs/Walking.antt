@@ -2,22 +2,18 @@
 use Rattle.std.specs.Prelude.{◌≡◌, ℕ, ◌+◌, ◌^◌, ◌<◌, ◌≤◌, Bool, not, true, false, List, [], Option, None, Some, find, length, if◌then◌else◌}
 use Rattle.std.specs.List.{range_with_len}
 use Rattle.flow_core_laws.specs.declared.activation.Activation.{Activation}
+use Rattle.flow_core_laws.specs.declared.place.Place.{Place}
 use Rattle.flow_core_laws.specs.declared.task_end.TaskEnd.{TaskEnd}
-use Rattle.flow_core_laws.specs.Place.{Place, places_from}
+use Rattle.flow_core_laws.specs.Place.{places_from}
 use Rattle.flow_core_laws.specs.There.{is_there}
 use Rattle.stream_match_layouts.specs.declared.layout.Layout.{Layout}
 use Rattle.stream_match_layouts.specs.declared.span.Span.{Span}
 use Rattle.stream_match_layouts.specs.Spans.{read_count}
-use Rattle.collector.specs.declared.missing.Gap.{Gap}
 
 -- a span on a stream of a layout, and the end of what it reads fits its type
 pub record IsSpanIn (layout : Layout) (span : Span) : Type 0 where
   pub stream_exists : span.stream < length layout.writers
   pub ends : span.first + read_count span < 2 ^ 63
-
--- the place of a gap
-abbrev pub place_of : Gap → Place
-place_of gap = record { stream = gap.stream; position = gap.position }
 
 -- whether the element at a place isn't there
 abbrev pub is_missing : List Activation → ℕ → List (Option TaskEnd) → Place → Bool

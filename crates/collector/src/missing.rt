@@ -7,9 +7,9 @@ ghost use Rattle.flow_core_laws.specs.Window.{producer};
 ghost use Rattle.stream_match_layouts.specs.Layout.{IsLayout, IsLayoutOf, span_of};
 ghost use Rattle.stream_match_layouts.specs.Spans.{frame_count};
 ghost use Rattle.collector.specs.Missing.{WritesAt, missing};
-ghost use Rattle.collector.specs.Walking.{IsSpanIn, Reaches, is_gap, is_missing, first_gap, place_of, read_places};
+ghost use Rattle.collector.specs.Walking.{IsSpanIn, Reaches, is_gap, is_missing, first_gap, read_places};
 
-use flow_core_laws::Ends;
+use flow_core_laws::{Ends, Place};
 use stream_match_layouts::{Layout, Span};
 
 /// An element that isn't there, which a starved activation waits for.
@@ -19,13 +19,6 @@ pub struct Missing {
     pub position: u64,
     /// The activation whose write claim covers the position, if there is one. It is starved too.
     pub producer: Option<u32>,
-}
-
-/// A position of a stream whose element isn't there.
-#[derive(Clone, Copy)]
-struct Gap {
-    stream: u32,
-    position: u64,
 }
 
 /// The first missing element of an activation, by the ends so far: the first one of its input windows, by clause
@@ -45,17 +38,17 @@ pub fn first_missing(layout: &Layout, ends: &Ends, frame: u32) -> Option<Missing
 }
 
 /// The first position that spans read whose element isn't there.
-fn missing_among(layout: &Layout, ends: &Ends, spans: &[Span]) -> Option<Gap>
+fn missing_among(layout: &Layout, ends: &Ends, spans: &[Span]) -> Option<Place>
     requires layout { IsLayout layout.now }
     requires spans { All (IsSpanIn layout.now) spans.now }
     ensures exists { IfSome result (λ gap. gap.stream < length layout.now.writers) }
     ensures missing { (activations : List Activation) → IsLayoutOf layout.now activations
-        → option_map place_of result ≡ find (is_missing activations layout.now.input_len ends.now.ends) (flat_map read_places spans.now) }
+        → result ≡ find (is_missing activations layout.now.input_len ends.now.ends) (flat_map read_places spans.now) }
 {
     for span in spans {
         if !span.write {
             if let Some(position) = missing_position(layout, ends, *span) {
-                return Some(Gap {
+                return Some(Place {
                     stream: span.stream,
                     position,
                 });
@@ -118,7 +111,7 @@ fn covered_to(layout: &Layout, ends: &Ends, stream: u32, position: u64) -> Optio
 }
 
 /// The activation whose write claim covers a gap, if there is one.
-fn producing(layout: &Layout, gap: Gap) -> Option<u32>
+fn producing(layout: &Layout, gap: Place) -> Option<u32>
     requires layout { IsLayout layout.now }
     requires exists { gap.stream < length layout.now.writers }
     ensures { (activations : List Activation) → IsLayoutOf layout.now activations

@@ -11,10 +11,10 @@ use Rattle.flow_core_epochs.specs.Epoch as epoch
 use Rattle.flow_core_epochs.specs.Epoch.{IsOutside, leaving_places, number_among, open_in, read_from, written_places}
 use Rattle.flow_core_laws.proofs.Filtered.{filtered_ascends, filtered_each}
 use Rattle.flow_core_laws.specs.Outcome.{outcome_at}
-use Rattle.flow_core_laws.specs.Place as streams
 use Rattle.flow_core_laws.specs.Place.{places_of}
 use Rattle.flow_core_laws.specs.Window.{Window, producer, windows_of}
 use Rattle.flow_core_laws.specs.declared.activation.Activation.{Activation}
+use Rattle.flow_core_laws.specs.declared.place.Place.{Place}
 use Rattle.stream_match.proofs.Lowering.{streams_exist}
 use Rattle.stream_match.specs.EpochPlan.{AscendInLayout}
 use Rattle.stream_match.specs.Kept.{kept_of}
@@ -58,7 +58,7 @@ module _ (layout : Layout) (frames : List ℕ) (are : AscendInLayout layout fram
 
 module _ (layout : Layout) (is : IsLayout layout) (activations : List Activation) (laid : IsLayoutOf layout activations) where
   -- what an activation writes is on streams of the layout
-  written_exists : (a : ℕ) (p : streams.Place) → a < length activations → Has (written_places activations a) p → p.stream < length layout.writers
+  written_exists : (a : ℕ) (p : Place) → a < length activations → Has (written_places activations a) p → p.stream < length layout.writers
   written_exists a p lt h =
       let (w, at, covers) = of_flat_map places_of (filter (λ (w : Window). w.claim.write) (windows_of activations a)) p h in
       let stands = of_filter (λ (w : Window). w.claim.write) (windows_of activations a) w at in
@@ -67,16 +67,16 @@ module _ (layout : Layout) (is : IsLayout layout) (activations : List Activation
       (streams_exist layout is a (omega (arith, frame_count-is layout activations laid))) in
       let lt : w.claim.stream < length layout.writers =
       all_has (λ (s : Span). s.stream < length layout.writers) (map span_of (windows_of activations a)) (span_of w) all (in_map span_of (windows_of activations a) w stands.0) in
-      subst (λ (q : streams.Place). q.stream < length layout.writers) same lt
+      subst (λ (q : Place). q.stream < length layout.writers) same lt
 
-  pub places_exist : (readers frames : List ℕ) (places : List streams.Place) → All (λ f. f < length activations) frames → places ≡ leaving_places activations readers frames
-      → All (λ (p : streams.Place). p.stream < length layout.writers) places
-  places_exist readers frames places exist leave = has_all (λ (p : streams.Place). p.stream < length layout.writers) places each
+  pub places_exist : (readers frames : List ℕ) (places : List Place) → All (λ f. f < length activations) frames → places ≡ leaving_places activations readers frames
+      → All (λ (p : Place). p.stream < length layout.writers) places
+  places_exist readers frames places exist leave = has_all (λ (p : Place). p.stream < length layout.writers) places each
     where
-      each : (p : streams.Place) → Has places p → p.stream < length layout.writers
+      each : (p : Place) → Has places p → p.stream < length layout.writers
       each p h =
-          let left = subst (λ (ps : List streams.Place). Has ps p) leave h in
-          let passes = of_filter (λ (q : streams.Place). q.stream == 1 || nat_le (read_from activations readers q.stream) q.position) (flat_map (written_places activations) frames) p left in
+          let left = subst (λ (ps : List Place). Has ps p) leave h in
+          let passes = of_filter (λ (q : Place). q.stream == 1 || nat_le (read_from activations readers q.stream) q.position) (flat_map (written_places activations) frames) p left in
           let (a, at, writes) = of_flat_map (written_places activations) frames p passes.0 in
           written_exists a p (all_has (λ f. f < length activations) frames a exist at) writes
 
@@ -85,6 +85,6 @@ module _ (layout : Layout) (is : IsLayout layout) (activations : List Activation
     where
       each : (k : Kept) → Has kept k → k.stream < length layout.writers
       each k h =
-          let p : streams.Place = record { stream = k.stream; position = k.position } in
+          let p : Place = record { stream = k.stream; position = k.position } in
           let (w, found, other) = all_has (λ (l : epoch.Kept). (w : Window) × (producer activations l.place.stream l.place.position ≡ Some w) × (number_among frames w.activation ≡ None)) (map kept_of kept) (kept_of k) outside.written_outside (in_map kept_of kept k h) in
           written_exists w.activation p (is_producer activations k.stream k.position w found).exists (wrote activations p w found)

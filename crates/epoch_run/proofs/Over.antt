@@ -10,8 +10,9 @@ use Rattle.std.proofs.lemmas.List.Recursion.{is_position_or_len}
 use Rattle.std.proofs.lemmas.List.FromFn.{get_or-map-range_with_len, length-map-range_with_len}
 use Rattle.flow_core_epochs.specs.Epoch.{is_output_at, number_among, output_over, put_over}
 use Rattle.flow_core_laws.specs.declared.elem.Elem.{Elem}
+use Rattle.flow_core_laws.specs.declared.place.Place.{Place}
 use Rattle.flow_core_laws.specs.Outcome.{outcome_at}
-use Rattle.flow_core_laws.specs.Place.{Place, places_from}
+use Rattle.flow_core_laws.specs.Place.{places_from}
 use Rattle.stream_match.specs.Stretch.{stretch_places}
 use Rattle.stream_match.specs.declared.stretch.Stretch.{Stretch}
 use Rattle.epoch_run_carrying.proofs.Leaves.{length_more, length-places, places_from_on}

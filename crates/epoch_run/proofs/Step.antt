@@ -22,8 +22,7 @@ use Rattle.flow_core_laws.proofs.Rounds.{length-meaning}
 use Rattle.flow_core_laws.specs.Poisoning.{poisoning}
 use Rattle.flow_core_laws.specs.FirstPosition.{is_write_to, write_cursor}
 use Rattle.flow_core_laws.specs.Outcome.{State, ends_of, has_end_at, outcome_at}
-use Rattle.flow_core_laws.specs.Place as streams
-use Rattle.flow_core_laws.specs.Place.{written_count}
+use Rattle.flow_core_laws.specs.Place.{output_places, written_count}
 use Rattle.flow_core_laws.specs.Plans.{plan_element, plan_reads, sink_elements}
 use Rattle.flow_core_laws.specs.Serves.{Serves}
 use Rattle.flow_core_laws.specs.Streams.{output_elements, stream_element, stream_meaning, stream_reads, stream_source}
@@ -32,6 +31,7 @@ use Rattle.flow_core_laws.specs.declared.activation.Activation.{Activation}
 use Rattle.flow_core_laws.specs.declared.claim.Claim.{Claim}
 use Rattle.flow_core_laws.specs.declared.ends.Ends.{Ends}
 use Rattle.flow_core_laws.specs.declared.outcome.Outcome.{Outcome}
+use Rattle.flow_core_laws.specs.declared.place.Place.{Place}
 use Rattle.flow_core_laws.specs.declared.plan.Plan.{Plan}
 use Rattle.flow_core_laws.specs.declared.task_end.TaskEnd.{TaskEnd}
 use Rattle.os_code.specs.declared.code.Code.{Code}
@@ -69,8 +69,8 @@ length-ends activations input body =
 
 length-output : (activations : List Activation) (input : List ℕ) (state : State) → length (output_elements activations input state) ≡ written_count activations 1
 length-output activations input state =
-    length-map (map (stream_source activations input) (streams.output_places activations)) (stream_element state)
-    ∙ length-map (streams.output_places activations) (stream_source activations input)
+    length-map (map (stream_source activations input) (output_places activations)) (stream_element state)
+    ∙ length-map (output_places activations) (stream_source activations input)
     ∙ length-map-range_with_len (λ position. record { stream = 1; position = position }) 0 (written_count activations 1)
 
 -- more activations write more
@@ -205,7 +205,7 @@ module _ (layout : Layout) (whole : IsLayout layout) (code : Parts) (activations
     held_now = same_held is.before input (frame_outcome code is.before budget) body held.ends.ends kept held.ends.output (later code is.before is.new input budget) is.meant.is_meant
 
     abbrev Opens : Type 0
-    Opens = IsOutside all frames kept × ((plan : Plan) (places : List streams.Place) → StandsForEpoch plan all input readers frames kept places → IsEpoch is.before is.new input body readers frames kept plan places)
+    Opens = IsOutside all frames kept × ((plan : Plan) (places : List Place) → StandsForEpoch plan all input readers frames kept places → IsEpoch is.before is.new input body readers frames kept plan places)
 
     opens : Opens
     opens = begins is.before is.new input body held.ends.ends kept held.ends.output readers frames no_output held_now (are_open ∙ ap (open_in held.ends.ends) count) (subst (λ (xs : List Activation). LeaveOutWaiting xs input held.ends.ends frames) is.are_all leave)
@@ -219,14 +219,14 @@ module _ (layout : Layout) (whole : IsLayout layout) (code : Parts) (activations
     pub kept_there : All (λ (k : Kept). k.stream < length layout.writers) held.kept.items
     kept_there = kept_exist layout whole all laid_out frames held.kept.items opens.0
 
-    module _ (plan : Plan) (places : List streams.Place) (stands : StandsForEpoch plan activations input readers frames kept places) where
+    module _ (plan : Plan) (places : List Place) (stands : StandsForEpoch plan activations input readers frames kept places) where
       all_stands : StandsForEpoch plan all input readers frames kept places
       all_stands = subst (λ (xs : List Activation). StandsForEpoch plan xs input readers frames kept places) is.are_all stands
 
       exist : All (λ f. f < length all) frames
       exist = subst (λ n. All (λ f. f < n) frames) count (all_exist layout frames frames_are)
 
-      pub places_there : All (λ (p : streams.Place). p.stream < length layout.writers) places
+      pub places_there : All (λ (p : Place). p.stream < length layout.writers) places
       places_there = places_exist layout whole all laid_out readers frames places exist all_stands.places_leave
 
       -- so the bodies of activations serve it, which have those among them that have no end

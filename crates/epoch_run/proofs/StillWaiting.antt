@@ -8,10 +8,11 @@ use Rattle.epoch_run_ready.proofs.StillWaiting.{waits_on}
 use Rattle.epoch_run_ready.specs.Newest.{WaitBefore, WaitFrom}
 use Rattle.flow_core_epochs.specs.Epoch.{CannotCome, LeaveOutWaiting, ServesAll}
 use Rattle.flow_core_laws.specs.Outcome.{ends_of, outcome_at}
-use Rattle.flow_core_laws.specs.Place.{Place, input_places}
+use Rattle.flow_core_laws.specs.Place.{input_places}
 use Rattle.flow_core_laws.specs.Streams.{stream_meaning, stream_source}
 use Rattle.flow_core_laws.specs.declared.activation.Activation.{Activation}
 use Rattle.flow_core_laws.specs.declared.outcome.Outcome.{Outcome}
+use Rattle.flow_core_laws.specs.declared.place.Place.{Place}
 use Rattle.flow_core_laws.specs.declared.task_end.TaskEnd.{TaskEnd}
 use Rattle.os_code.specs.declared.parts.Parts.{Parts}
 use Rattle.epoch_run.proofs.Step.{length-ends}

@@ -1,8 +1,8 @@
 ghost use Rattle.std.specs.Prelude.{◌≡◌, ◌+◌, ◌^◌, ◌<◌, ◌≤◌, ℕ, [], None, Some, All, List, OnOk, length, map, slice_get, slice_index};
 ghost use Rattle.std.specs.List.{flat_map};
 ghost use Rattle.flow_core_laws.specs.Outcome.{outcome_at};
-ghost use Rattle.flow_core_laws.specs.Place.{Place};
 ghost use Rattle.flow_core_laws.specs.declared.activation.Activation.{Activation};
+ghost use Rattle.flow_core_laws.specs.declared.place.Place.{Place};
 ghost use Rattle.flow_core_epochs.specs.Epoch.{carried_over, open_in, output_over, put_over};
 ghost use Rattle.stream_match.specs.EpochPlan.{AscendInLayout};
 ghost use Rattle.stream_match.specs.Kept.{kept_of};

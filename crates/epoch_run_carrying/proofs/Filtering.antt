@@ -7,11 +7,11 @@ use Rattle.std.proofs.lemmas.List.FromFn.{get_or-map-range_with_len, length-map-
 use Rattle.std.proofs.lemmas.Option.{same_Some}
 use Rattle.flow_core_laws.specs.declared.elem.Elem.{Elem}
 use Rattle.flow_core_laws.specs.declared.activation.Activation.{Activation}
+use Rattle.flow_core_laws.specs.declared.place.Place.{Place}
 use Rattle.flow_core_laws.specs.Place.{places_from}
 use Rattle.flow_core_laws.proofs.Stretches.{map-range-add}
 use Rattle.std.proofs.lemmas.List.{append_assoc, drop-take, length-take-le, take-append-drop, take_more, take-take}
 use Rattle.std.proofs.lemmas.List.Elements.{filter-append}
-use Rattle.flow_core_laws.specs.Place as streams
 use Rattle.flow_core_epochs.specs.Epoch as epoch
 use Rattle.flow_core_epochs.specs.Epoch.{elements_at, read_from}
 use Rattle.flow_core_epochs.proofs.Members.{Has, of_map, of_append, has_tail}
@@ -24,7 +24,7 @@ use Rattle.epoch_run_carrying.proofs.Leaves.{length_within, places_more}
 use Rattle.epoch_run_carrying.specs.Carrying.{is_behind, carried_by, passed_over}
 
 -- elements at joined places
-elements_at-append : (ps qs : List streams.Place) (vs ws : List (Option Elem)) → length vs ≡ length ps → elements_at (ps ++ qs) (vs ++ ws) ≡ elements_at ps vs ++ elements_at qs ws
+elements_at-append : (ps qs : List Place) (vs ws : List (Option Elem)) → length vs ≡ length ps → elements_at (ps ++ qs) (vs ++ ws) ≡ elements_at ps vs ++ elements_at qs ws
 elements_at-append [] qs [] ws l = refl
 elements_at-append [] qs (v ∷ vs) ws l = absurd (cc)
 elements_at-append (p ∷ ps) qs [] ws l = absurd (cc)
@@ -131,7 +131,7 @@ pub elements_more : (stream first n : ℕ) (values : List (Option Elem)) (old mi
     → new ≡ old ++ elements_at (places_from stream first (n + 1)) (take (n + 1) values)
 elements_more stream first n values old mid new lt before step =
     let ps = places_from stream first n in
-    let p : List streams.Place = record { stream = stream; position = first + n } ∷ [] in
+    let p : List Place = record { stream = stream; position = first + n } ∷ [] in
     let vs = take n values in
     let v = get_or values n None ∷ [] in
     let split : elements_at (places_from stream first (n + 1)) (take (n + 1) values) ≡ elements_at ps vs ++ elements_at p v =
@@ -165,7 +165,7 @@ filter_same p q [] same = refl
 filter_same p q (x ∷ xs) same = ap (λ b. cond b (x ∷ filter p xs) (filter p xs)) (same x (0, refl)) ∙ ap (λ ys. cond (q x) (x ∷ ys) ys) (filter_same p q xs (λ y h. same y (has_tail x xs y h)))
 
 -- an element at places is at one of them
-at_place : (ps : List streams.Place) (vs : List (Option Elem)) (k : epoch.Kept) → Has (elements_at ps vs) k → Has ps k.place
+at_place : (ps : List Place) (vs : List (Option Elem)) (k : epoch.Kept) → Has (elements_at ps vs) k → Has ps k.place
 at_place [] vs k (i, at) = absurd (cc)
 at_place (p ∷ ps) [] k (i, at) = absurd (cc)
 at_place (p ∷ ps) (None ∷ vs) k h = has_tail p ps k.place (at_place ps vs k h)
@@ -173,7 +173,7 @@ at_place (p ∷ ps) (Some v ∷ vs) k (zero, at) = (0, ap (λ (l : epoch.Kept). 
 at_place (p ∷ ps) (Some v ∷ vs) k (suc i, at) = has_tail p ps k.place (at_place ps vs k (i, at))
 
 -- the cursors of all streams carry over what may still be read
-pub carried_by_cursors : (activations : List Activation) (open_frames cursors : List ℕ) (n : ℕ) (kept : List Kept) (places : List streams.Place) (values : List (Option Elem)) → cursors ≡ map (read_from activations open_frames) (range_with_len 0 n) → All (λ (k : Kept). k.stream < n) kept → All (λ (p : streams.Place). p.stream < n) places → carried_by cursors (map kept_of kept) places values ≡ epoch.carried_over activations open_frames (map kept_of kept) places values
+pub carried_by_cursors : (activations : List Activation) (open_frames cursors : List ℕ) (n : ℕ) (kept : List Kept) (places : List Place) (values : List (Option Elem)) → cursors ≡ map (read_from activations open_frames) (range_with_len 0 n) → All (λ (k : Kept). k.stream < n) kept → All (λ (p : Place). p.stream < n) places → carried_by cursors (map kept_of kept) places values ≡ epoch.carried_over activations open_frames (map kept_of kept) places values
 carried_by_cursors activations open_frames cursors n kept places values is kept_exist places_exist = filter_same (is_behind cursors) (λ (k : epoch.Kept). epoch.is_readable activations open_frames k.place) (map kept_of kept ++ elements_at places values) (λ k h. same k (exists k (of_append (map kept_of kept) (elements_at places values) k h)))
   where
     exists : (k : epoch.Kept) → (Has (map kept_of kept) k) ⊎ (Has (elements_at places values) k) → k.place.stream < n
@@ -182,7 +182,7 @@ carried_by_cursors activations open_frames cursors n kept places values is kept_
         let lt = all_has (λ (k : Kept). k.stream < n) kept l kept_exist at in
         let s : l.stream ≡ k.place.stream = ap (λ (m : epoch.Kept). m.place.stream) e in
         omega arith
-    exists k (inr h) = all_has (λ (p : streams.Place). p.stream < n) places k.place places_exist (at_place places values k h)
+    exists k (inr h) = all_has (λ (p : Place). p.stream < n) places k.place places_exist (at_place places values k h)
 
     same : (k : epoch.Kept) → k.place.stream < n → is_behind cursors k ≡ epoch.is_readable activations open_frames k.place
     same k lt = ap (λ c. nat_le 2 k.place.stream && nat_le c k.place.position) (ap (λ cs. get_or cs k.place.stream 0) is ∙ get_or-map-range_with_len (read_from activations open_frames) 0 n k.place.stream k.place.stream 0 lt (omega arith))

@@ -1,7 +1,8 @@
 ghost use Rattle.std.specs.Prelude.{◌≡◌, ◌+◌, ◌^◌, ◌<◌, ◌≤◌, [], ◌∷◌, ◌++◌, All, List, OnOk, length, map, filter, nat_le, slice_index, ◌&&◌};
 ghost use Rattle.std.specs.List.{flat_map};
 ghost use Rattle.flow_core_laws.specs.declared.activation.Activation.{Activation};
-ghost use Rattle.flow_core_laws.specs.Place.{Place, places_from};
+ghost use Rattle.flow_core_laws.specs.declared.place.Place.{Place};
+ghost use Rattle.flow_core_laws.specs.Place.{places_from};
 ghost use Rattle.stream_match_layouts.specs.Layout.{IsLayout, IsLayoutOf};
 ghost use Rattle.stream_match_layouts.specs.Spans.{frame_count};
 ghost use Rattle.flow_core_epochs.specs.Epoch.{elements_at, carried_over};

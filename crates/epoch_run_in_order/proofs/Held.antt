@@ -6,9 +6,10 @@ use Rattle.std.proofs.lemmas.List.{get_or-set_other, get_or-set_same, length-map
 use Rattle.std.proofs.lemmas.List.FromFn.{length-map-range_with_len}
 use Rattle.flow_core_laws.specs.declared.activation.Activation.{Activation}
 use Rattle.flow_core_laws.specs.declared.elem.Elem.{Elem}
+use Rattle.flow_core_laws.specs.declared.place.Place.{Place}
 use Rattle.flow_core_laws.specs.FirstPosition.{read_cursor}
 use Rattle.flow_core_laws.specs.Outcome.{State}
-use Rattle.flow_core_laws.specs.Place.{Place, places_from, written_count}
+use Rattle.flow_core_laws.specs.Place.{places_from, written_count}
 use Rattle.flow_core_laws.specs.Streams.{stream_element, stream_source}
 use Rattle.flow_core_laws.specs.Window.{claims_of}
 use Rattle.epoch_run_in_order_laws.specs.InOrder.{HoldElements, elements_on}

@@ -6,8 +6,9 @@ use Rattle.std.specs.Prelude.{find, ◌==◌, ◌&&◌}
 use Rattle.std.proofs.lemmas.Bool.{cases_eq, cases_lt, eq-eqb, le-leb, le-ltb, lt-leb, lt-ltb, ne_eqb}
 use Rattle.std.proofs.lemmas.List.{get_or-set_other, get_or-set_same, length-set}
 use Rattle.flow_core_epochs.specs.Epoch.{Kept, is_at, value_kept}
-use Rattle.flow_core_laws.specs.Place.{Place, places_from}
+use Rattle.flow_core_laws.specs.Place.{places_from}
 use Rattle.flow_core_laws.specs.declared.elem.Elem.{Elem}
+use Rattle.flow_core_laws.specs.declared.place.Place.{Place}
 use Rattle.epoch_run_in_order.specs.Behind.{with_all_kept, with_element, with_kept}
 
 abbrev place : ℕ → ℕ → Place

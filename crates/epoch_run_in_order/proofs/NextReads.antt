@@ -11,9 +11,10 @@ use mathlib.Core.List.{map-map}
 use Rattle.flow_core_laws.specs.declared.activation.Activation.{Activation}
 use Rattle.flow_core_laws.specs.declared.elem.Elem.{Elem}
 use Rattle.flow_core_laws.specs.declared.elem.Elem.TheVariants.{Value}
+use Rattle.flow_core_laws.specs.declared.place.Place.{Place}
 use Rattle.flow_core_laws.specs.Element.{initial, nobody}
 use Rattle.flow_core_laws.specs.Outcome.{State}
-use Rattle.flow_core_laws.specs.Place.{Place, input_places, places_of, written_count}
+use Rattle.flow_core_laws.specs.Place.{input_places, places_of, written_count}
 use Rattle.flow_core_laws.specs.Poisoning.{values_of}
 use Rattle.flow_core_laws.specs.Round.{gathered}
 use Rattle.flow_core_laws.specs.Streams.{input_source, produced_source, stream_element, stream_source}

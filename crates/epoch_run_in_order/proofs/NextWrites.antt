@@ -13,12 +13,13 @@ use Rattle.flow_core_laws.specs.declared.activation.Activation.{Activation}
 use Rattle.flow_core_laws.specs.declared.claim.Claim.{Claim}
 use Rattle.flow_core_laws.specs.declared.elem.Elem.{Elem}
 use Rattle.flow_core_laws.specs.declared.outcome.Outcome.{Outcome}
+use Rattle.flow_core_laws.specs.declared.place.Place.{Place}
 use Rattle.flow_core_laws.specs.declared.task_end.TaskEnd.{TaskEnd}
 use Rattle.flow_core_laws.specs.declared.task_end.TaskEnd.TheVariants.{Done, Trapped, OverBudget, Poisoned}
 use Rattle.flow_core_laws.specs.Element.{output_element}
 use Rattle.flow_core_laws.specs.FirstPosition.{is_write_to}
 use Rattle.flow_core_laws.specs.Outcome.{State, root_of}
-use Rattle.flow_core_laws.specs.Place.{Place, places_from, written_count}
+use Rattle.flow_core_laws.specs.Place.{places_from, written_count}
 use Rattle.flow_core_laws.specs.Streams.{stream_element, stream_source}
 use Rattle.flow_core_laws.specs.Window.{Window, claims_of, windows_of}
 use Rattle.flow_core_epochs.proofs.Reading.{cursor_grows}

@@ -10,9 +10,10 @@ use Rattle.std.proofs.lemmas.List.Sums.{sum_by-append}
 use Rattle.flow_core_laws.specs.declared.activation.Activation.{Activation}
 use Rattle.flow_core_laws.specs.declared.claim.Claim.{Claim}
 use Rattle.flow_core_laws.specs.declared.outcome.Outcome.{Outcome}
+use Rattle.flow_core_laws.specs.declared.place.Place.{Place}
 use Rattle.flow_core_laws.specs.FirstPosition.{is_write_to}
 use Rattle.flow_core_laws.specs.Outcome.{State, outcome_at}
-use Rattle.flow_core_laws.specs.Place.{Place, places_from, written_count}
+use Rattle.flow_core_laws.specs.Place.{places_from, written_count}
 use Rattle.flow_core_laws.specs.Poisoning.{poisoning}
 use Rattle.flow_core_laws.specs.Streams.{stream_element, stream_meaning, stream_source, own_number}
 use Rattle.flow_core_laws.specs.Window.{claims_of, windows_of}

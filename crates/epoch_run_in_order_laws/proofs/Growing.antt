@@ -14,10 +14,10 @@ use Rattle.flow_core_laws.specs.declared.activation.Activation.{Activation}
 use Rattle.flow_core_laws.specs.declared.claim.Claim.{Claim}
 use Rattle.flow_core_laws.specs.declared.elem.Elem.{Elem}
 use Rattle.flow_core_laws.specs.declared.outcome.Outcome.{Outcome}
+use Rattle.flow_core_laws.specs.declared.place.Place.{Place}
 use Rattle.flow_core_laws.specs.Element.{fed, nobody, element_written}
 use Rattle.flow_core_laws.specs.FirstPosition.{first_position, is_write_to, write_cursor}
 use Rattle.flow_core_laws.specs.Outcome.{State, outcome_at}
-use Rattle.flow_core_laws.specs.Place.{Place}
 use Rattle.flow_core_laws.specs.Streams.{input_source, produced_source, stream_source, stream_element}
 use Rattle.flow_core_laws.specs.Window.{Window, windows, windows_of, claims_of, no_claim, producer}
 use Rattle.flow_core_laws.proofs.Stretches.{flat_map-range_more, flat_map-range-same, map-range-add, map-range-shift}

@@ -11,9 +11,10 @@ use Rattle.flow_core_laws.specs.declared.activation.Activation.{Activation}
 use Rattle.flow_core_laws.specs.declared.claim.Claim.{Claim}
 use Rattle.flow_core_laws.specs.declared.elem.Elem.{Elem}
 use Rattle.flow_core_laws.specs.declared.outcome.Outcome.{Outcome}
+use Rattle.flow_core_laws.specs.declared.place.Place.{Place}
 use Rattle.flow_core_laws.specs.FirstPosition.{read_cursor}
 use Rattle.flow_core_laws.specs.Outcome.{State, outcome_at, ends_of}
-use Rattle.flow_core_laws.specs.Place.{Place, places_from, output_places, written_count}
+use Rattle.flow_core_laws.specs.Place.{places_from, output_places, written_count}
 use Rattle.flow_core_laws.specs.Poisoning.{poisoning}
 use Rattle.flow_core_laws.specs.Streams.{output_elements, stream_element, stream_meaning, stream_reads, stream_source}
 use Rattle.flow_core_laws.specs.Window.{claims_of}

@@ -7,8 +7,9 @@ use mathlib.Core.List.{map-map}
 use Rattle.flow_core_laws.specs.declared.activation.Activation.{Activation}
 use Rattle.flow_core_laws.specs.declared.elem.Elem.{Elem}
 use Rattle.flow_core_laws.specs.declared.outcome.Outcome.{Outcome}
+use Rattle.flow_core_laws.specs.declared.place.Place.{Place}
 use Rattle.flow_core_laws.specs.Outcome.{State, outcome_at}
-use Rattle.flow_core_laws.specs.Place.{Place, input_places}
+use Rattle.flow_core_laws.specs.Place.{input_places}
 use Rattle.flow_core_laws.specs.Poisoning.{poisoning}
 use Rattle.flow_core_laws.specs.Round.{gathered, inputs_in}
 use Rattle.flow_core_laws.specs.Streams.{stream_source, stream_reads, stream_element, stream_meaning, own_number}

@@ -7,10 +7,11 @@ use Rattle.std.proofs.lemmas.Bool.{and_parts, cases_lt, eqb-true}
 use Rattle.flow_core_laws.specs.declared.activation.Activation.{Activation}
 use Rattle.flow_core_laws.specs.declared.elem.Elem.{Elem}
 use Rattle.flow_core_laws.specs.declared.outcome.Outcome.{Outcome}
+use Rattle.flow_core_laws.specs.declared.place.Place.{Place}
 use Rattle.flow_core_laws.specs.declared.task_end.TaskEnd.{TaskEnd}
 use Rattle.flow_core_laws.specs.FirstPosition.{read_cursor}
 use Rattle.flow_core_laws.specs.Outcome.{State}
-use Rattle.flow_core_laws.specs.Place.{Place, places_from, written_count}
+use Rattle.flow_core_laws.specs.Place.{places_from, written_count}
 use Rattle.flow_core_laws.specs.Streams.{stream_element, stream_meaning, stream_source}
 use Rattle.flow_core_laws.specs.Window.{claims_of}
 use Rattle.flow_core_laws.proofs.Sources.{find_passes}

@@ -4,10 +4,11 @@ use Rattle.std.specs.List.{range_with_len, flat_map}
 use Rattle.flow_core_laws.specs.declared.activation.Activation.{Activation}
 use Rattle.flow_core_laws.specs.declared.elem.Elem.{Elem}
 use Rattle.flow_core_laws.specs.declared.outcome.Outcome.{Outcome}
+use Rattle.flow_core_laws.specs.declared.place.Place.{Place}
 use Rattle.flow_core_laws.specs.Element.{element_written}
 use Rattle.flow_core_laws.specs.FirstPosition.{is_write_to, read_cursor}
 use Rattle.flow_core_laws.specs.Outcome.{State}
-use Rattle.flow_core_laws.specs.Place.{Place, input_places, places_from, written_count}
+use Rattle.flow_core_laws.specs.Place.{input_places, places_from, written_count}
 use Rattle.flow_core_laws.specs.Streams.{stream_element, stream_source}
 use Rattle.flow_core_laws.specs.Window.{Window, claims_of}
 use Rattle.flow_core_epochs.specs.Epoch.{Kept, elements_at}

@@ -20,7 +20,7 @@ use Rattle.flow_core_laws.proofs.There.{there_by_ends}
 use Rattle.flow_core_laws.specs.Element.{fed, initial, nobody}
 use Rattle.flow_core_laws.specs.Laws.{IsFilled}
 use Rattle.flow_core_laws.specs.Outcome.{State, ends_of, has_end_at, outcome_at, outcome_of}
-use Rattle.flow_core_laws.specs.Place.{Place, input_places}
+use Rattle.flow_core_laws.specs.Place.{input_places}
 use Rattle.flow_core_laws.specs.Poisoning.{least_root, poisoning, values_of}
 use Rattle.flow_core_laws.specs.Round.{gathered, inputs_in}
 use Rattle.flow_core_laws.specs.Streams.{input_source, output_count, own_number, produced_source, stream_element, stream_meaning, stream_reads, stream_source}
@@ -29,6 +29,7 @@ use Rattle.flow_core_laws.specs.declared.activation.Activation.{Activation}
 use Rattle.flow_core_laws.specs.declared.elem.Elem.{Elem}
 use Rattle.flow_core_laws.specs.declared.elem.Elem.TheVariants.{Value}
 use Rattle.flow_core_laws.specs.declared.outcome.Outcome.{Outcome}
+use Rattle.flow_core_laws.specs.declared.place.Place.{Place}
 use Rattle.flow_core_laws.specs.declared.task_end.TaskEnd.{TaskEnd}
 use Rattle.flow_core_laws.specs.declared.task_end.TaskEnd.TheVariants.{Done, Poisoned}
 

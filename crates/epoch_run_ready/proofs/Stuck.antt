@@ -19,10 +19,11 @@ use Rattle.flow_core_laws.specs.declared.elem.Elem.TheVariants.{Value}
 use Rattle.flow_core_laws.specs.Element.{fed, initial, nobody}
 use Rattle.flow_core_laws.specs.FirstPosition.{write_cursor}
 use Rattle.flow_core_laws.specs.Outcome.{outcome_at}
-use Rattle.flow_core_laws.specs.Place.{Place, input_places, places_of}
+use Rattle.flow_core_laws.specs.Place.{input_places, places_of}
 use Rattle.flow_core_laws.specs.Streams.{input_source, produced_source, stream_source}
 use Rattle.flow_core_laws.specs.Window.{Window, claims_of, producer, windows, windows_of}
 use Rattle.flow_core_laws.specs.declared.activation.Activation.{Activation}
+use Rattle.flow_core_laws.specs.declared.place.Place.{Place}
 use Rattle.flow_core_laws.specs.declared.task_end.TaskEnd.{TaskEnd}
 use Rattle.stream_match.specs.EpochCode.{Ascend}
 use Rattle.stream_match_layouts.proofs.FrameSpans.{spans_of-windows}

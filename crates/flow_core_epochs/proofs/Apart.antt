@@ -5,8 +5,9 @@ use Rattle.std.specs.List.{range_with_len, flat_map}
 use Rattle.std.proofs.lemmas.Option.{same_Some}
 use Rattle.flow_core_laws.specs.declared.elem.Elem.{Elem}
 use Rattle.flow_core_laws.specs.declared.activation.Activation.{Activation}
+use Rattle.flow_core_laws.specs.declared.place.Place.{Place}
 use Rattle.flow_core_laws.specs.Window.{Window, windows_of, windows, is_written_by}
-use Rattle.flow_core_laws.specs.Place.{Place, places_of}
+use Rattle.flow_core_laws.specs.Place.{places_of}
 use Rattle.flow_core_laws.proofs.Stretches.{stands_at, parts_before}
 use Rattle.flow_core_laws.proofs.Windows.{one_writer_of}
 use Rattle.flow_core_epochs.specs.Epoch.{Kept, elements_at, written_places, leaving_places, read_from}

@@ -11,12 +11,13 @@ use Rattle.flow_core_laws.specs.declared.claim.Claim.{Claim}
 use Rattle.flow_core_laws.specs.declared.activation.Activation.{Activation}
 use Rattle.flow_core_laws.specs.declared.plan.Plan.{Plan}
 use Rattle.flow_core_laws.specs.declared.outcome.Outcome.{Outcome}
+use Rattle.flow_core_laws.specs.declared.place.Place.{Place}
 use Rattle.flow_core_laws.specs.Outcome.{outcome_at, State}
 use Rattle.flow_core_laws.specs.Element.{fed, nobody, element_written, output_at}
 use Rattle.flow_core_laws.specs.Poisoning.{poisoning}
 use Rattle.flow_core_laws.specs.FirstPosition.{is_read_of}
 use Rattle.flow_core_laws.specs.Window.{Window, windows_of, claims_of, producer, window_of, windows, claims_at, is_written_by}
-use Rattle.flow_core_laws.specs.Place.{Place, input_places, places_of}
+use Rattle.flow_core_laws.specs.Place.{input_places, places_of}
 use Rattle.flow_core_laws.specs.Plans.{sink_elements}
 use Rattle.flow_core_laws.specs.Streams.{input_source, produced_source, stream_source, stream_reads, stream_meaning, stream_element, own_number}
 use Rattle.flow_core_laws.proofs.Sources.{find_passes}

@@ -13,9 +13,10 @@ use Rattle.flow_core_laws.specs.declared.plan.Plan.{Plan}
 use Rattle.flow_core_laws.specs.declared.outcome.Outcome.{Outcome}
 use Rattle.flow_core_laws.specs.Outcome.{outcome_at, State}
 use Rattle.flow_core_laws.specs.declared.elem.Elem.TheVariants.{Value}
+use Rattle.flow_core_laws.specs.declared.place.Place.{Place}
 use Rattle.flow_core_laws.specs.Element.{Source, initial, fed, nobody, element_written, output_at}
 use Rattle.flow_core_laws.specs.Poisoning.{poisoning}
-use Rattle.flow_core_laws.specs.Place.{Place, input_places}
+use Rattle.flow_core_laws.specs.Place.{input_places}
 use Rattle.flow_core_laws.specs.Streams.{input_source, produced_source, stream_source, stream_reads, stream_meaning, stream_element, own_number}
 use Rattle.flow_core_laws.specs.Plans.{number_at, plan_reads, plan_element, plan_meaning}
 use Rattle.flow_core_laws.specs.Round.{gathered, inputs_in}

@@ -18,7 +18,7 @@ use Rattle.flow_core_laws.specs.declared.plan.Plan.{Plan}
 use Rattle.flow_core_laws.specs.Outcome.{outcome_at, State, ends_of}
 use Rattle.flow_core_laws.specs.Round.{meaning, rounds}
 use Rattle.flow_core_laws.specs.Window.{Window, producer, windows, claims_of, is_written_by}
-use Rattle.flow_core_laws.specs.Place.{Place, written_count}
+use Rattle.flow_core_laws.specs.Place.{written_count}
 use Rattle.flow_core_laws.specs.Plans.{sink_elements}
 use Rattle.flow_core_laws.specs.Poisoning.{poisoning}
 use Rattle.flow_core_laws.specs.Streams.{stream_source, stream_reads, stream_meaning, output_elements, stream_element}
@@ -31,6 +31,7 @@ use Rattle.flow_core_epochs.proofs.Leaving.{sink_leaves}
 use Rattle.flow_core_epochs.proofs.Carried.{nothing_at_first, serves_next, is_outside, carries_over, output_stays, produced_by_nobody}
 use Rattle.std.proofs.lemmas.List.Elements.{filter-append}
 use Rattle.flow_core_laws.specs.declared.claim.Claim.{Claim}
+use Rattle.flow_core_laws.specs.declared.place.Place.{Place}
 use Rattle.flow_core_laws.specs.FirstPosition.{is_write_to, write_cursor}
 use Rattle.flow_core_laws.proofs.Sources.{find_passes}
 use Rattle.flow_core_laws.proofs.Windows.{window_at, written, first_of_write}

@@ -10,8 +10,8 @@ use Rattle.flow_core_laws.specs.declared.plan.Plan.{Plan}
 use Rattle.flow_core_laws.specs.declared.outcome.Outcome.{Outcome}
 use Rattle.flow_core_laws.specs.Outcome.{outcome_at, State}
 use Rattle.flow_core_laws.specs.declared.elem.Elem.TheVariants.{Value}
+use Rattle.flow_core_laws.specs.declared.place.Place.{Place}
 use Rattle.flow_core_laws.specs.Element.{Source, initial, fed, nobody, element_written}
-use Rattle.flow_core_laws.specs.Place.{Place}
 use Rattle.flow_core_laws.specs.Streams.{input_source, produced_source, stream_source, stream_element, own_number}
 use Rattle.flow_core_laws.specs.Plans.{plan_reads, plan_element, sink_elements}
 use Rattle.flow_core_epochs.specs.Epoch.{written_places, leaving_places, read_from, Kept, value_kept, among, epoch_source}

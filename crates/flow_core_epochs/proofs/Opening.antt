@@ -4,7 +4,8 @@ use Rattle.std.specs.Prelude.{All, IsSome}
 use Rattle.flow_core_laws.specs.declared.activation.Activation.{Activation}
 use Rattle.flow_core_laws.specs.declared.plan.Plan.{Plan}
 use Rattle.flow_core_laws.specs.declared.outcome.Outcome.{Outcome}
-use Rattle.flow_core_laws.specs.Place.{Place, input_places}
+use Rattle.flow_core_laws.specs.declared.place.Place.{Place}
+use Rattle.flow_core_laws.specs.Place.{input_places}
 use Rattle.flow_core_laws.specs.Streams.{stream_meaning, stream_source, stream_element}
 use Rattle.flow_core_epochs.specs.Epoch.{Kept, IsEpoch, AreChosen, value_kept}
 use Rattle.flow_core_epochs.proofs.Frames.{ascending_numbered}

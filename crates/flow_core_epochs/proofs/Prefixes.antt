@@ -6,7 +6,7 @@ use Rattle.std.proofs.lemmas.List.{length-append, take-append-le}
 use Rattle.flow_core_laws.specs.declared.activation.Activation.{Activation}
 use Rattle.flow_core_laws.specs.Outcome.{outcome_at, State}
 use Rattle.flow_core_laws.specs.Window.{Window, producer, windows, windows_behind, claims_of, claims_at, no_claim, offset_after, is_written_by}
-use Rattle.flow_core_laws.specs.Place.{Place, input_places, places_of}
+use Rattle.flow_core_laws.specs.Place.{input_places, places_of}
 use Rattle.flow_core_laws.specs.Round.{gathered, inputs_in}
 use Rattle.flow_core_laws.proofs.Rounds.{Extends, outcome_at-meaning}
 use Rattle.flow_core_epochs.proofs.Holding.{gathered_both, holds_in_meaning}
@@ -19,6 +19,7 @@ use Rattle.flow_core_laws.proofs.Elements.{element_kept}
 use Rattle.std.specs.List.{flat_map}
 use Rattle.std.proofs.lemmas.Option.{slice_get-get_or}
 use Rattle.flow_core_laws.specs.declared.claim.Claim.{Claim}
+use Rattle.flow_core_laws.specs.declared.place.Place.{Place}
 use Rattle.flow_core_laws.specs.FirstPosition.{first_position}
 use Rattle.flow_core_laws.proofs.Sources.{find_passes}
 use Rattle.flow_core_laws.proofs.Stretches.{slice_get-append_left}

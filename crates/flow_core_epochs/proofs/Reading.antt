@@ -10,9 +10,10 @@ use Rattle.std.proofs.lemmas.Option.{slice_get-get_or}
 use Rattle.std.proofs.Math.Seq.{take-append-add}
 use Rattle.flow_core_laws.specs.declared.claim.Claim.{Claim}
 use Rattle.flow_core_laws.specs.declared.activation.Activation.{Activation}
+use Rattle.flow_core_laws.specs.declared.place.Place.{Place}
 use Rattle.flow_core_laws.specs.FirstPosition.{is_read_of, read_cursor, write_cursor, first_position}
 use Rattle.flow_core_laws.specs.Window.{Window, window_of, windows_behind, windows_of, claims_of, claims_at, claim_at}
-use Rattle.flow_core_laws.specs.Place.{Place, places_of, input_places}
+use Rattle.flow_core_laws.specs.Place.{places_of, input_places}
 use Rattle.flow_core_epochs.specs.Epoch.{read_from}
 use Rattle.flow_core_epochs.proofs.Members.{Has, of_map, in_map, of_filter, in_filter, of_flat_map, in_flat_map, has_tail}
 use Rattle.flow_core_epochs.proofs.Prefixes.{take_more, claims_at_more}

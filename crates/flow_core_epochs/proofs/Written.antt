@@ -6,9 +6,10 @@ use Rattle.std.specs.List.{range_with_len}
 use Rattle.std.proofs.lemmas.Bool.{eq-eqb, eqb-true, lt-ltb}
 use Rattle.std.proofs.lemmas.Bool.Decides.{nat_tests}
 use Rattle.flow_core_laws.specs.declared.activation.Activation.{Activation}
+use Rattle.flow_core_laws.specs.declared.place.Place.{Place}
 use Rattle.flow_core_laws.specs.Element.{fed, nobody}
 use Rattle.flow_core_laws.specs.Window.{Window, window_of, windows_of, windows, claims_of, claims_at, is_written_by, producer}
-use Rattle.flow_core_laws.specs.Place.{Place, places_of}
+use Rattle.flow_core_laws.specs.Place.{places_of}
 use Rattle.flow_core_laws.specs.Streams.{input_source, produced_source, stream_source}
 use Rattle.flow_core_laws.proofs.Stretches.{stands_at}
 use Rattle.flow_core_laws.proofs.Windows.{producer_of}

@@ -4,9 +4,9 @@
 use Rattle.std.specs.Prelude.{ℕ, ℤ, pos, ◌+ℤ◌, true, false, ◌==◌, if◌then◌else◌, List, [], ◌∷◌, Some, None, fold}
 use Rattle.flow_core_laws.specs.declared.claim.Claim.{Claim}
 use Rattle.flow_core_laws.specs.declared.activation.Activation.{Activation}
-use Rattle.flow_core_laws.specs.Place.{Place}
 use Rattle.flow_core_laws.specs.declared.elem.Elem.{Elem}
 use Rattle.flow_core_laws.specs.declared.outcome.Outcome.{Outcome}
+use Rattle.flow_core_laws.specs.declared.place.Place.{Place}
 use Rattle.flow_core_laws.specs.declared.task_end.TaskEnd.{TaskEnd}
 use Rattle.flow_core_laws.specs.declared.task_end.TaskEnd.TheVariants.{Done}
 use Rattle.flow_core_laws.specs.declared.plan.Plan.{Plan}

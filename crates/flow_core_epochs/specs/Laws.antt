@@ -2,7 +2,7 @@
 use Rattle.std.specs.Prelude.{[], ◌≡◌, ℕ, ℤ, ◌<◌, List, ◌++◌, Option, Some, All, Contains, slice_get, slice_index, map, length, ◌≤◌, ◌⊎◌}
 use Rattle.flow_core_laws.specs.declared.activation.Activation.{Activation}
 use Rattle.flow_core_laws.specs.Outcome.{outcome_at, ends_of}
-use Rattle.flow_core_laws.specs.Place.{Place, input_places}
+use Rattle.flow_core_laws.specs.Place.{input_places}
 use Rattle.flow_core_epochs.specs.Epoch.{open_in, put_over, ReadNoOutput, Kept, IsKeptFor, StandsForEpoch, AreChosen, LeaveOutWaiting, IsEpoch}
 use Rattle.flow_core_epochs.specs.Epoch.{epoch_meaning, carried_over, IsCarried, IsOutside, IsHeld, IsHeldAfter, ServesAll, read_from}
 use Rattle.flow_core_laws.specs.declared.elem.Elem.{Elem}
@@ -10,6 +10,7 @@ use Rattle.flow_core_laws.specs.declared.plan.Plan.{Plan}
 use Rattle.flow_core_laws.specs.declared.outcome.Outcome.{Outcome}
 use Rattle.flow_core_laws.specs.declared.task_end.TaskEnd.{TaskEnd}
 use Rattle.flow_core_laws.specs.declared.ends.Ends.{Ends}
+use Rattle.flow_core_laws.specs.declared.place.Place.{Place}
 use Rattle.flow_core_laws.specs.Streams.{stream_source, stream_element, stream_meaning}
 use Rattle.flow_core_laws.specs.Plans.{sink_elements}
 use Rattle.flow_core_laws.specs.Serves.{Serves}

@@ -6,7 +6,7 @@ use Rattle.std.proofs.lemmas.Option.{same_Some}
 use Rattle.flow_core_laws.specs.declared.activation.Activation.{Activation}
 use Rattle.flow_core_laws.specs.Outcome.{outcome_at, State, outcome_of, root_of, has_failed}
 use Rattle.flow_core_laws.specs.Window.{Window, producer}
-use Rattle.flow_core_laws.specs.Place.{Place, input_places}
+use Rattle.flow_core_laws.specs.Place.{input_places}
 use Rattle.flow_core_laws.specs.Round.{gathered, inputs_in}
 use Rattle.flow_core_laws.proofs.Gathering.{gathered-cons}
 use Rattle.flow_core_laws.proofs.Rounds.{Extends, gathered-extends, outcome_at-meaning, IsClosed, passes_from_closed}
@@ -15,6 +15,7 @@ use Rattle.flow_core_laws.specs.declared.elem.Elem.TheVariants.{Value, Poison}
 use Rattle.flow_core_laws.specs.declared.task_end.TaskEnd.{TaskEnd}
 use Rattle.flow_core_laws.specs.declared.task_end.TaskEnd.TheVariants.{Done, Trapped, OverBudget, Poisoned}
 use Rattle.flow_core_laws.specs.declared.outcome.Outcome.{Outcome}
+use Rattle.flow_core_laws.specs.declared.place.Place.{Place}
 use Rattle.flow_core_laws.specs.Element.{initial, fed, nobody, output_element, element_written}
 use Rattle.flow_core_laws.specs.Poisoning.{values_of, least_root, poisoning}
 use Rattle.flow_core_laws.specs.Streams.{input_source, produced_source, stream_source, stream_reads, own_number, stream_element, stream_meaning}

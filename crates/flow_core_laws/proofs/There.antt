@@ -10,7 +10,6 @@ use Rattle.flow_core_laws.specs.declared.claim.Claim.{Claim}
 use Rattle.flow_core_laws.specs.declared.activation.Activation.{Activation}
 use Rattle.flow_core_laws.specs.Outcome.{outcome_at, State, ends_of, root_of, has_end_at}
 use Rattle.flow_core_laws.specs.Window.{Window, windows, claims_at, claim_at, offset_after, is_written_by, producer, no_claim}
-use Rattle.flow_core_laws.specs.Place.{Place}
 use Rattle.flow_core_laws.specs.Streams.{output_count, input_source, produced_source, stream_source, own_number, stream_element}
 use Rattle.flow_core_laws.proofs.Sources.{find_passes}
 use Rattle.flow_core_laws.proofs.Windows.{is_window, written, claims_at-slice_get}
@@ -18,6 +17,7 @@ use Rattle.flow_core_laws.specs.declared.elem.Elem.TheVariants.{Value}
 use Rattle.flow_core_laws.specs.declared.task_end.TaskEnd.{TaskEnd}
 use Rattle.flow_core_laws.specs.declared.task_end.TaskEnd.TheVariants.{Done, Trapped, OverBudget, Poisoned}
 use Rattle.flow_core_laws.specs.declared.outcome.Outcome.{Outcome}
+use Rattle.flow_core_laws.specs.declared.place.Place.{Place}
 use Rattle.flow_core_laws.specs.Element as elements
 use Rattle.flow_core_laws.specs.Element.{initial, fed, nobody, output_element, output_at}
 use Rattle.flow_core_laws.specs.There.{is_there}

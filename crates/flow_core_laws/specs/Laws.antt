@@ -3,7 +3,6 @@ use Rattle.std.specs.Prelude.{◌≡◌, ◌≢◌, ℕ, ℤ, ◌≤◌, true, L
 use Rattle.std.specs.Prelude.{Contains, ◌+◌, ◌<◌, ◌++◌, replicate, slice_set, take, option_and_then, IsTrue}
 use Rattle.flow_core_laws.specs.declared.activation.Activation.{Activation}
 use Rattle.flow_core_laws.specs.Outcome.{outcome_at, State, ends_of, has_failed}
-use Rattle.flow_core_laws.specs.Place.{Place}
 use Rattle.flow_core_laws.specs.Streams.{output_count, stream_source, stream_reads, stream_element, output_elements, stream_meaning}
 use Rattle.flow_core_laws.specs.declared.elem.Elem.{Elem}
 use Rattle.flow_core_laws.specs.declared.elem.Elem.TheVariants.{Value, Poison}
@@ -18,6 +17,7 @@ use Rattle.flow_core_laws.specs.IsSound.{IsSound}
 use Rattle.flow_core_laws.specs.StandsFor.{StandsFor}
 use Rattle.std.specs.Option.{option_map}
 use Rattle.flow_core_laws.specs.declared.claim.Claim.{Claim}
+use Rattle.flow_core_laws.specs.declared.place.Place.{Place}
 use Rattle.flow_core_laws.specs.Round.{IsEnabled, inputs_in, round, rounds, meaning}
 use Rattle.flow_core_laws.specs.Window.{Window, windows, claims_of, offset_after, is_written_by, producer, producer_number}
 use Rattle.flow_core_laws.specs.FirstPosition.{is_write_to, first_position}

@@ -2,13 +2,9 @@
 use Rattle.std.specs.Prelude.{ℕ, not, List, map, filter}
 use Rattle.std.specs.List.{range_with_len, flat_map}
 use Rattle.flow_core_laws.specs.declared.activation.Activation.{Activation}
+use Rattle.flow_core_laws.specs.declared.place.Place.{Place}
 use Rattle.flow_core_laws.specs.FirstPosition.{write_cursor}
 use Rattle.flow_core_laws.specs.Window.{Window, windows_of, claims_of}
-
--- A position of a stream.
-pub record Place : Type 0 where
-  pub stream : ℕ
-  pub position : ℕ
 
 -- The `count` places on a stream from position `first` on.
 abbrev pub places_from : ℕ → ℕ → ℕ → List Place

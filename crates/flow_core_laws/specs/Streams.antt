@@ -3,7 +3,7 @@ use Rattle.std.specs.Prelude.{ℕ, ℤ, pos, ◌+◌, ◌-◌, ◌==◌, if◌th
 use Rattle.std.specs.Option.{option_map_or}
 use Rattle.flow_core_laws.specs.declared.activation.Activation.{Activation}
 use Rattle.flow_core_laws.specs.Window.{Window, producer}
-use Rattle.flow_core_laws.specs.Place.{Place, input_places, output_places}
+use Rattle.flow_core_laws.specs.Place.{input_places, output_places}
 use Rattle.flow_core_laws.specs.Round.{meaning}
 use Rattle.flow_core_laws.specs.declared.elem.Elem.{Elem}
 use Rattle.flow_core_laws.specs.declared.elem.Elem.TheVariants.{Value}
@@ -13,6 +13,7 @@ use Rattle.flow_core_laws.specs.Outcome.{State, ends_of}
 use Rattle.flow_core_laws.specs.Element.{Source, initial, fed, nobody, element}
 use Rattle.flow_core_laws.specs.Poisoning.{poisoning}
 use Rattle.flow_core_laws.specs.declared.claim.Claim.{Claim}
+use Rattle.flow_core_laws.specs.declared.place.Place.{Place}
 
 -- How many output elements an activation has: the sum of its write claims' horizons.
 abbrev pub output_count : Activation → ℕ

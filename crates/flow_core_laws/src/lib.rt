@@ -12,7 +12,7 @@
 //! activations. A plan is the same with the positions worked out: frames with cells, and pieces that
 //! carry output elements into them.
 //!
-//! There are the types that activations, plans and ends are made of, the trait by which a runtime asks
+//! There are the types that activations, plans and ends are made of, the place of an element, the trait by which a runtime asks
 //! for the bodies of frames, and `laws`: what holds of every meaning, for the proofs of whatever runs one.
 //! Nothing runs here but what looks up a frame, its number, the end of an activation, the root of an end and an element that it
 //! writes, and the lesser of two roots.
@@ -29,6 +29,7 @@ mod least_root;
 mod limits;
 mod outcome;
 mod output;
+mod place;
 mod plan;
 mod task_end;
 
@@ -45,5 +46,6 @@ pub use limits::{
 };
 pub use outcome::Outcome;
 pub use output::output_element;
+pub use place::Place;
 pub use plan::{FramePlan, Piece, Plan};
 pub use task_end::TaskEnd;

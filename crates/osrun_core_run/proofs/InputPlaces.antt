@@ -11,12 +11,13 @@ use Rattle.collector.proofs.ReadPlaces.{spans_in, starts_ordered}
 use Rattle.collector.specs.Walking.{IsSpanIn, read_places}
 use Rattle.flow_core_laws.proofs.Stretches.{slice_get-append_left, slice_get-append_right}
 use Rattle.flow_core_laws.specs.Element.{Source}
-use Rattle.flow_core_laws.specs.Place.{Place, input_places, places_from, places_of}
+use Rattle.flow_core_laws.specs.Place.{input_places, places_from, places_of}
 use Rattle.flow_core_laws.specs.Plans.{cell_source, frame_at}
 use Rattle.flow_core_laws.specs.StandsFor.{StandsFor}
 use Rattle.flow_core_laws.specs.Streams.{stream_source}
 use Rattle.flow_core_laws.specs.Window.{Window, windows_of}
 use Rattle.flow_core_laws.specs.declared.activation.Activation.{Activation}
+use Rattle.flow_core_laws.specs.declared.place.Place.{Place}
 use Rattle.flow_core_laws.specs.declared.plan.Plan.{Plan}
 use Rattle.stream_match_layouts.proofs.FrameSpans.{spans_of-windows}
 use Rattle.stream_match_layouts.proofs.Tallies.{frame_count-is}

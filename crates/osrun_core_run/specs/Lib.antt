@@ -12,6 +12,5 @@ pub mod Laws
 -- What restates private functions.
 pub mod Accepting
 pub mod HandedBack
-pub mod Inputs
 pub mod Planned
 pub mod Reported

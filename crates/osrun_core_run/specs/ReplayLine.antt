@@ -2,9 +2,10 @@
 use Rattle.std.specs.Prelude.{◌≡◌, ℕ, ◌+◌, List, ◌++◌, Some, codes, slice_get}
 use Rattle.std.specs.Fmt.{decimal}
 use Rattle.os_io.specs.Lines.{ended_line}
-use Rattle.flow_core_laws.specs.Place.{Place, input_places}
+use Rattle.flow_core_laws.specs.Place.{input_places}
 use Rattle.flow_core_laws.specs.Plans.{frame_at}
 use Rattle.flow_core_laws.specs.declared.activation.Activation.{Activation}
+use Rattle.flow_core_laws.specs.declared.place.Place.{Place}
 use Rattle.flow_core_laws.specs.declared.plan.Plan.{Plan}
 use Rattle.trace_replay_laws.specs.declared.replayed.Replayed.{Replayed}
 use Rattle.trace_replay_laws.specs.declared.replayed.Replayed.TheVariants.{Whole, Short, Stuck, Repeat, Stranger}

@@ -6,7 +6,6 @@ ghost use Rattle.flow_core_laws.specs.IsSound.{HasCell};
 ghost use Rattle.flow_core_laws.specs.Place.{input_places};
 ghost use Rattle.flow_core_laws.specs.StandsFor.{StandsFor};
 ghost use Rattle.flow_core_laws.specs.declared.activation.Activation.{Activation};
-ghost use Rattle.osrun_core_run.specs.Inputs.{place_of};
 ghost use Rattle.osrun_core_run.specs.ReplayLine.{IsCellOf};
 ghost use Rattle.stream_match_layouts.specs.Layout.{IsLayout, IsLayoutOf};
 ghost use Rattle.stream_match_layouts.specs.Spans.{frame_count, read_count, spans_of};
@@ -25,7 +24,7 @@ fn read_count(span: Span) -> u32
 fn place_in(span: Span, number: u32) -> Place
     requires fits { span.first + read_count span < 2 ^ 63 }
     requires within { number < read_count span }
-    ensures { slice_get (read_places span) number ≡ Some (place_of result) }
+    ensures { slice_get (read_places span) number ≡ Some result }
 {
     Place {
         stream: span.stream,
@@ -37,7 +36,7 @@ fn place_in(span: Span, number: u32) -> Place
 fn read_place(spans: &[Span], number: u32) -> Place
     requires fit { All (λ span. span.first + read_count span < 2 ^ 63) spans.now }
     requires exists { IsSome (slice_get (flat_map read_places spans.now) number) }
-    ensures { slice_get (flat_map read_places spans.now) number ≡ Some (place_of result) }
+    ensures { slice_get (flat_map read_places spans.now) number ≡ Some result }
 {
     let mut left = number;
     for span in spans {
@@ -56,7 +55,7 @@ fn input_place(layout: &Layout, activation: u32, number: u32) -> Place
     requires activation { activation < frame_count layout.now }
     requires exists { IsSome (slice_get (flat_map read_places (spans_of layout.now activation)) number) }
     ensures { (activations : List Activation) → IsLayoutOf layout.now activations
-        → slice_get (input_places activations activation) number ≡ Some (place_of result) }
+        → slice_get (input_places activations activation) number ≡ Some result }
 {
     read_place(layout.spans_of(activation as usize), number)
 }
@@ -68,7 +67,7 @@ pub(crate) fn cell_place(planned: &Planned, frame: u32, cell: u32) -> Place
     requires stands { (input : List ℕ) × StandsFor planned.now.plan planned.now.control.activations input }
     requires frame { frame < length planned.now.plan.frames }
     requires cell { HasCell planned.now.plan frame cell }
-    ensures { IsCellOf planned.now.plan planned.now.control.activations frame cell (place_of result) }
+    ensures { IsCellOf planned.now.plan planned.now.control.activations frame cell result }
 {
     let first = planned.plan.frame(frame).cell;
     input_place(&planned.layout, frame, cell - first)

@@ -1,6 +1,5 @@
 //! The lines that are told of lists which aren't whole.
 ghost use Rattle.std.specs.Prelude.{◌≡◌, IfOk, string_bytes};
-ghost use Rattle.osrun_core_run.specs.Inputs.{place_of};
 ghost use Rattle.osrun_core_run.specs.ReplayLine.{repeat_line, short_line, stranger_line, stuck_line};
 
 use os_io::Memory;
@@ -35,7 +34,7 @@ pub(crate) fn stuck_line(
     frame: u32,
     place: Place,
 ) -> Result<String, Memory>
-    ensures { IfOk result (λ text. string_bytes text ≡ stuck_line list frame (place_of place)) }
+    ensures { IfOk result (λ text. string_bytes text ≡ stuck_line list frame place) }
 {
     let Place { stream, position } = place;
     Ok(format!(in alloc; "stuck {list} frame {frame} stream {stream} position {position}\n")?)

@@ -5,12 +5,13 @@ use Rattle.std.specs.List.{flat_map, range_with_len}
 use Rattle.std.specs.Option.{option_map, option_map_or}
 use Rattle.os_io.specs.Lines.{ended_line}
 use Rattle.flow_core_laws.specs.Outcome.{State}
-use Rattle.flow_core_laws.specs.Place.{Place, written_count}
+use Rattle.flow_core_laws.specs.Place.{written_count}
 use Rattle.flow_core_laws.specs.Streams.{stream_element, stream_source}
 use Rattle.flow_core_laws.specs.Window.{Window, producer}
 use Rattle.flow_core_laws.specs.declared.activation.Activation.{Activation}
 use Rattle.flow_core_laws.specs.declared.elem.Elem.{Elem}
 use Rattle.flow_core_laws.specs.declared.elem.Elem.TheVariants.{Poison, Value}
+use Rattle.flow_core_laws.specs.declared.place.Place.{Place}
 
 -- the element at a position of a stream in a state of the activations, if it is there
 abbrev pub element_at : List Activation → (input : List ℕ) → State → (stream position : ℕ) → Option Elem

@@ -10,7 +10,7 @@ use Rattle.flow_core_laws.specs.declared.claim.Claim.{Claim}
 use Rattle.flow_core_laws.specs.declared.activation.Activation.{Activation}
 use Rattle.flow_core_laws.specs.declared.plan.FramePlan.{FramePlan}
 use Rattle.flow_core_laws.specs.Window.{Window, windows, windows_of, is_written_by, producer, producer_number}
-use Rattle.flow_core_laws.specs.Place.{Place, places_from, places_of, input_places}
+use Rattle.flow_core_laws.specs.Place.{places_from, places_of, input_places}
 use Rattle.flow_core_laws.specs.Streams.{output_count, input_source, produced_source, stream_source}
 use Rattle.flow_core_laws.proofs.Windows.{written, producer_by_number, claims_at-slice_get}
 use Rattle.flow_core_epochs.specs.Epoch.{number_among, read_from, Kept, value_kept, among, epoch_source, StandsForEpoch, written_places}
@@ -19,6 +19,7 @@ use Rattle.flow_core_laws.specs.Element.{initial, fed, nobody}
 use Rattle.flow_core_laws.specs.Plans.{frame_at, cell_source, plan_reads}
 use Rattle.flow_core_laws.specs.declared.elem.Elem.{Elem}
 use Rattle.flow_core_laws.specs.declared.elem.Elem.TheVariants.{Value}
+use Rattle.flow_core_laws.specs.declared.place.Place.{Place}
 use Rattle.stream_match_layouts.specs.declared.span.Span.{Span}
 use Rattle.stream_match_layouts.specs.declared.layout.Layout.{Layout}
 use Rattle.stream_match_layouts.specs.Layout.{span_of, IsLayout, IsLayoutOf}

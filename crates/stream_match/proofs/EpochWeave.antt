@@ -10,10 +10,10 @@ use Rattle.std.proofs.lemmas.List.Sums.{sum_by_more, sum_by-append, sum_by-cons,
 use Rattle.std.proofs.lemmas.Option.{slice_get-get_or, slice_get_within, get_or_from_slice_get, same_Some}
 use Rattle.flow_core_laws.specs.declared.activation.Activation.{Activation}
 use Rattle.flow_core_laws.specs.Window.{Window, windows, producer, windows_of}
-use Rattle.flow_core_laws.specs.Place.{Place}
 use Rattle.flow_core_laws.proofs.Sources.{find_passes}
 use Rattle.flow_core_laws.proofs.Windows.{producer_by_number}
 use Rattle.flow_core_laws.specs.declared.elem.Elem.TheVariants.{Value}
+use Rattle.flow_core_laws.specs.declared.place.Place.{Place}
 use Rattle.flow_core_epochs.specs.Epoch.{number_among, Kept, is_at, value_kept}
 use Rattle.flow_core_epochs.proofs.Members.{Has, of_map, of_flat_map}
 use Rattle.flow_core_epochs.proofs.Carried.{all_has, has_all}

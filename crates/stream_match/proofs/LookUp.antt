@@ -8,7 +8,7 @@ use Rattle.std.proofs.lemmas.Bool.{and_parts, eqb-true, cases_lt, cases_order, l
 use Rattle.std.proofs.lemmas.List.Sums.{position_or_len_is}
 use Rattle.std.proofs.lemmas.Option.{slice_get-get_or, slice_get_within, get_or_from_slice_get, same_Some}
 use Rattle.std.proofs.lemmas.List.Sorted.{IsPermutation-map, IsPermutation-sym, Contains-permutation}
-use Rattle.flow_core_laws.specs.Place as streams
+use Rattle.flow_core_laws.specs.declared.place.Place.{Place}
 use Rattle.flow_core_laws.proofs.Sources.{position_only, find_passes}
 use Rattle.flow_core_epochs.specs.Epoch as epoch
 use Rattle.flow_core_epochs.specs.Epoch.{number_among, is_at, value_kept, PlacesDiffer}
@@ -59,12 +59,12 @@ before_not_at stream position l (inl less) = not_at stream position l (λ s p. a
 before_not_at stream position l (inr (same, less)) = not_at stream position l (λ s p. absurd (omega arith))
 
 -- where no element is at a place, none is kept for it
-none_at : (place : streams.Place) (kept : List Kept) → ((i : ℕ) (l : Kept) → slice_get kept i ≡ Some l → is_at place (kept_of l) ≡ false) → find (is_at place) (map kept_of kept) ≡ None
+none_at : (place : Place) (kept : List Kept) → ((i : ℕ) (l : Kept) → slice_get kept i ≡ Some l → is_at place (kept_of l) ≡ false) → find (is_at place) (map kept_of kept) ≡ None
 none_at place [] free = refl
 none_at place (x ∷ xs) free = ap (λ b. cond b (Some (kept_of x)) (find (is_at place) (map kept_of xs))) (free 0 x refl) ∙ none_at place xs (λ i l at. free (suc i) l at)
 
 -- the first one that may be
-one_at : (place : streams.Place) (kept : List Kept) (n : ℕ) (k : Kept) → slice_get kept n ≡ Some k → ((i : ℕ) (l : Kept) → i ≢ n → slice_get kept i ≡ Some l → is_at place (kept_of l) ≡ true → is_at place (kept_of k) ≡ true) → ((i : ℕ) (l : Kept) → i < n → slice_get kept i ≡ Some l → is_at place (kept_of l) ≡ false)
+one_at : (place : Place) (kept : List Kept) (n : ℕ) (k : Kept) → slice_get kept n ≡ Some k → ((i : ℕ) (l : Kept) → i ≢ n → slice_get kept i ≡ Some l → is_at place (kept_of l) ≡ true → is_at place (kept_of k) ≡ true) → ((i : ℕ) (l : Kept) → i < n → slice_get kept i ≡ Some l → is_at place (kept_of l) ≡ false)
     → value_kept (map kept_of kept) place ≡ value_kept (kept_of k ∷ []) place
 one_at place [] n k at later before = absurd (cc)
 one_at place (x ∷ xs) zero k at later before = by_test (is_at place (kept_of x)) refl
@@ -147,7 +147,7 @@ none_within kept stretch number k up first at behind position low high =
 
 -- ---- the same elements in another order
 
-is_found : (place : streams.Place) (xs : List epoch.Kept) (i : ℕ) (k : epoch.Kept) → slice_get xs i ≡ Some k → is_at place k ≡ true → (l : epoch.Kept) × (find (is_at place) xs ≡ Some l)
+is_found : (place : Place) (xs : List epoch.Kept) (i : ℕ) (k : epoch.Kept) → slice_get xs i ≡ Some k → is_at place k ≡ true → (l : epoch.Kept) × (find (is_at place) xs ≡ Some l)
 is_found place [] i k at t = absurd (cc)
 is_found place (x ∷ xs) zero k at t = (x, ap (λ b. cond b (Some x) (find (is_at place) xs)) (ap (is_at place) (same_Some x k at) ∙ t))
 is_found place (x ∷ xs) (suc i) k at t = by_test (is_at place x) (is_found place xs i k at t)
@@ -156,13 +156,13 @@ is_found place (x ∷ xs) (suc i) k at t = by_test (is_at place x) (is_found pla
     by_test true r = (x, refl)
     by_test false r = r
 
-place_is : (place : streams.Place) (k : epoch.Kept) → is_at place k ≡ true → k.place ≡ place
+place_is : (place : Place) (k : epoch.Kept) → is_at place k ≡ true → k.place ≡ place
 place_is place k t =
     let parts = and_parts (k.place.stream == place.stream) (k.place.position == place.position) t in
     ap (λ s. record { stream = s; position = k.place.position }) (eqb-true k.place.stream place.stream parts.0) ∙ ap (λ p. record { stream = place.stream; position = p }) (eqb-true k.place.position place.position parts.1)
 
 pub kept_permutation : (xs ys : List epoch.Kept) → PlacesDiffer xs → ((k : epoch.Kept) (i : ℕ) → slice_get xs i ≡ Some k → (j : ℕ) × (slice_get ys j ≡ Some k)) → ((k : epoch.Kept) (j : ℕ) → slice_get ys j ≡ Some k → (i : ℕ) × (slice_get xs i ≡ Some k))
-    → (place : streams.Place) → value_kept ys place ≡ value_kept xs place
+    → (place : Place) → value_kept ys place ≡ value_kept xs place
 kept_permutation xs ys differ there back place = ap (option_map (λ (l : epoch.Kept). l.value)) (by_find (find (is_at place) xs) refl (find (is_at place) ys) refl)
   where
     by_find : (o : Option epoch.Kept) → find (is_at place) xs ≡ o → (p : Option epoch.Kept) → find (is_at place) ys ≡ p → find (is_at place) ys ≡ find (is_at place) xs
@@ -216,7 +216,7 @@ sorted_by_places xs up ties i j k l less at_i at_j =
 moved : {A : Type 0} (xs ys : List A) → IsPermutation xs ys → (k : A) (i : ℕ) → slice_get xs i ≡ Some k → (j : ℕ) × (slice_get ys j ≡ Some k)
 moved xs ys perm k i at = has_contained ys k (Contains-permutation xs ys k perm (i, slice_get_within xs i k at, get_or_from_slice_get xs i k k at))
 
-pub same_kept : (xs ys : List Kept) → IsPermutation xs ys → PlacesDiffer (map kept_of xs) → (place : streams.Place) → value_kept (map kept_of ys) place ≡ value_kept (map kept_of xs) place
+pub same_kept : (xs ys : List Kept) → IsPermutation xs ys → PlacesDiffer (map kept_of xs) → (place : Place) → value_kept (map kept_of ys) place ≡ value_kept (map kept_of xs) place
 same_kept xs ys perm differ place =
     let p = IsPermutation-map kept_of xs ys perm in
     kept_permutation (map kept_of xs) (map kept_of ys) differ (moved (map kept_of xs) (map kept_of ys) p) (moved (map kept_of ys) (map kept_of xs) (IsPermutation-sym (map kept_of xs) (map kept_of ys) p)) place

@@ -9,7 +9,7 @@ use Rattle.std.proofs.lemmas.Option.{slice_get-get_or, slice_get_within}
 use Rattle.flow_core_laws.specs.declared.activation.Activation.{Activation}
 use Rattle.flow_core_laws.specs.FirstPosition.{write_cursor}
 use Rattle.flow_core_laws.specs.Window.{Window, windows, is_written_by, producer}
-use Rattle.flow_core_laws.specs.Place.{Place, places_from, input_places, written_count, output_places}
+use Rattle.flow_core_laws.specs.Place.{places_from, input_places, written_count, output_places}
 use Rattle.flow_core_laws.proofs.Sources.{find_passes}
 use Rattle.flow_core_laws.proofs.Windows.{is_window}
 use Rattle.flow_core_epochs.specs.Epoch.{number_among, among, epoch_source}
@@ -20,6 +20,7 @@ use Rattle.flow_core_laws.specs.Element.{initial, fed, nobody}
 use Rattle.flow_core_laws.specs.Streams.{input_source, produced_source, stream_source}
 use Rattle.flow_core_laws.specs.Plans.{plan_reads}
 use Rattle.flow_core_laws.specs.declared.elem.Elem.TheVariants.{Value}
+use Rattle.flow_core_laws.specs.declared.place.Place.{Place}
 use Rattle.stream_match_layouts.specs.declared.layout.Layout.{Layout}
 use Rattle.stream_match_layouts.specs.Layout.{claims_in, IsLayout, IsLayoutOf}
 use Rattle.stream_match_layouts.specs.Spans.{frame_count, read_count}

@@ -6,13 +6,13 @@ use Rattle.std.specs.List.{flat_map, range_with_len}
 use Rattle.std.proofs.lemmas.List.{map-append}
 use Rattle.std.proofs.lemmas.List.Sums.{sum_by-cons}
 use Rattle.flow_core_laws.specs.declared.plan.Piece.{Piece}
-use Rattle.flow_core_laws.specs.Place.{Place}
 use Rattle.flow_core_laws.proofs.Stretches.{map-range-add, map-range-shift}
 use Rattle.flow_core_laws.specs.declared.plan.Plan.{Plan}
 use Rattle.flow_core_laws.specs.Element.{Source, initial, fed, nobody}
 use Rattle.flow_core_laws.specs.Plans.{frame_at, held_at, piece_at, piece_source, cell_source, plan_reads}
 use Rattle.flow_core_laws.proofs.Sources.{cell_source-covered, fed-covered}
 use Rattle.flow_core_laws.specs.declared.elem.Elem.{Elem}
+use Rattle.flow_core_laws.specs.declared.place.Place.{Place}
 use Rattle.stream_match_layouts.specs.declared.layout.Layout.{Layout}
 use Rattle.stream_match_layouts.specs.Writers.{writer_at}
 use Rattle.stream_match_layouts.proofs.Windows.{map_map}

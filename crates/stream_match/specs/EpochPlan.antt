@@ -5,7 +5,6 @@ use Rattle.std.specs.Option.{option_map, option_map_or}
 use Rattle.std.specs.List.{flat_map, range_with_len}
 use Rattle.flow_core_laws.specs.declared.activation.Activation.{Activation}
 use Rattle.flow_core_laws.specs.Window.{Window, producer}
-use Rattle.flow_core_laws.specs.Place.{Place}
 use Rattle.flow_core_epochs.specs.Epoch.{number_among, read_from, open_in, put_over, Kept, value_kept}
 use Rattle.flow_core_epochs.specs.Epoch.{epoch_meaning, AreChosen, IsKeptFor, StandsForEpoch, IsOutside}
 use Rattle.flow_core_laws.specs.declared.plan.Plan.{Plan}
@@ -14,6 +13,7 @@ use Rattle.flow_core_laws.specs.IsSound.{IsSound}
 use Rattle.flow_core_laws.specs.Streams.{stream_meaning}
 use Rattle.flow_core_laws.specs.declared.elem.Elem.{Elem}
 use Rattle.flow_core_laws.specs.declared.elem.Elem.TheVariants.{Value}
+use Rattle.flow_core_laws.specs.declared.place.Place.{Place}
 use Rattle.stream_match_layouts.specs.declared.layout.Layout.{Layout}
 use Rattle.stream_match_layouts.specs.Layout.{IsLayout, IsLayoutOf}
 use Rattle.stream_match_layouts.specs.Spans.{write_count, spans_of, frame_count, read_count}

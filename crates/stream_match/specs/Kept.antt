@@ -1,17 +1,12 @@
--- Kept elements and places, as the meaning has them.
+-- Kept elements, as the meaning has them.
 use Rattle.std.specs.Prelude.{ℕ, List}
 use Rattle.flow_core_laws.specs.declared.activation.Activation.{Activation}
-use Rattle.flow_core_laws.specs.Place as streams
 use Rattle.flow_core_epochs.specs.Epoch as epoch
 use Rattle.stream_match_layouts.specs.declared.layout.Layout.{Layout}
 use Rattle.stream_match_layouts.specs.Layout.{IsLayoutOf}
 use Rattle.stream_match.specs.declared.kept.Kept.{Kept}
-use Rattle.stream_match.specs.declared.place.Place.{Place}
 
--- a place, and a kept element
-abbrev pub place_of : Place → streams.Place
-place_of p = record { stream = p.stream; position = p.position }
-
+-- a kept element
 abbrev pub kept_of : Kept → epoch.Kept
 kept_of k = record { place = record { stream = k.stream; position = k.position }; value = k.value }
 

@@ -1,8 +1,9 @@
 -- The positions that go into cells, and the pieces that carry output elements there.
 use Rattle.std.specs.Prelude.{ℕ, ◌+◌, ◌-◌, ◌==◌, Bool, nat_lt, min, max, if◌then◌else◌, List, [], ◌∷◌, length, filter}
 use Rattle.std.specs.List.{flat_map, range_with_len}
+use Rattle.flow_core_laws.specs.declared.place.Place.{Place}
 use Rattle.flow_core_laws.specs.declared.plan.Piece.{Piece}
-use Rattle.flow_core_laws.specs.Place.{Place, places_from}
+use Rattle.flow_core_laws.specs.Place.{places_from}
 use Rattle.stream_match_layouts.specs.declared.span.Span.{Span}
 use Rattle.stream_match_layouts.specs.declared.layout.Layout.{Layout}
 use Rattle.stream_match.specs.declared.stretch.Stretch.{Stretch}

@@ -7,12 +7,13 @@ use Rattle.flow_core_laws.specs.declared.plan.FramePlan.{FramePlan}
 use Rattle.flow_core_laws.specs.declared.plan.Piece.{Piece}
 use Rattle.flow_core_laws.specs.declared.plan.Plan.{Plan}
 use Rattle.flow_core_laws.specs.declared.elem.Elem.{Elem}
+use Rattle.flow_core_laws.specs.declared.place.Place.{Place}
 use Rattle.stream_match_layouts.specs.declared.span.Span.{Span}
 use Rattle.stream_match_layouts.specs.declared.layout.Layout.{Layout}
 use Rattle.stream_match_layouts.specs.Writers.{writers_on, writer_at, end_of, HasWriters}
 use Rattle.stream_match.specs.declared.stretch.Stretch.{Stretch}
 use Rattle.stream_match.specs.Stretch.{overlap, pieces_from, by_frame}
-use Rattle.flow_core_laws.specs.Place.{Place, places_from}
+use Rattle.flow_core_laws.specs.Place.{places_from}
 
 -- positions of a stream, as many as `count` from `first` on
 pub record Reach : Type 0 where

@@ -9,19 +9,18 @@ ghost use Rattle.stream_match.specs.declared.stretch.Stretch.{Stretch};
 ghost use Rattle.stream_match_layouts.specs.Layout.{IsLayout, IsLayoutOf};
 ghost use Rattle.stream_match_layouts.specs.Spans.{frame_count};
 ghost use Rattle.stream_match.specs.EpochPlan.{AscendInLayout, WrittenOutside, GoesOn, GoesOnFor, IsEpochPlanOf};
-ghost use Rattle.stream_match.specs.Kept.{kept_of, place_of, IsKeptOutside};
+ghost use Rattle.stream_match.specs.Kept.{kept_of, IsKeptOutside};
 ghost use Rattle.stream_match.specs.EpochCode.{AreSorted};
 ghost use Rattle.stream_match.specs.Stretch.{stretch_places};
 
 use crate::cursors::read_cursors;
 use crate::kept::Kept;
 use crate::look_up::sorted;
-use crate::place::Place;
 use crate::places::places_in;
 use crate::reaching::{Left, leaving, reading};
 use crate::stretch::Stretch;
 use crate::woven::weave_rows;
-use flow_core_laws::{FramePlan, Plan};
+use flow_core_laws::{FramePlan, Place, Plan};
 use os_io::{List, Memory};
 use std::alloc::Global;
 use stream_match_layouts::Layout;
@@ -63,7 +62,7 @@ pub fn build_epoch(
     ensures sound { IfOk result (λ epoch. IsSound epoch.plan) }
     ensures stands_for { IfOk result (λ epoch. (activations : List Activation) → IsLayoutOf layout.now activations
         → IsOutside activations frames.now (map kept_of kept.now)
-        → StandsForEpoch epoch.plan activations input.now frames.now frames.now (map kept_of kept.now) (map place_of epoch.places)) }
+        → StandsForEpoch epoch.plan activations input.now frames.now frames.now (map kept_of kept.now) epoch.places) }
     ensures adds_up { IfOk result (λ epoch. GoesOn layout.now input.now frames.now (map kept_of kept.now) epoch.plan) }
 {
     let ready = build_ready(alloc, layout, frames, frames, kept, input)?;

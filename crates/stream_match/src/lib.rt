@@ -23,7 +23,6 @@ mod look_up;
 mod nearby;
 mod numbers;
 mod pieces;
-mod place;
 mod places;
 mod plan;
 mod reaching;
@@ -32,8 +31,8 @@ mod woven;
 
 pub use cursors::read_cursors;
 pub use epoch::{EpochPlan, ReadyPlan, build_epoch, build_ready};
+pub use flow_core_laws::Place;
 pub use kept::Kept;
-pub use place::Place;
 pub use plan::build;
 pub use stream_match_layouts::{Layout, Span, laws};
 pub use stretch::Stretch;

@@ -1,11 +1,10 @@
-ghost use Rattle.std.specs.Prelude.{◌≡◌, ◌+◌, ◌++◌, ◌^◌, ◌<◌, All, IfOk, OnOk, map};
+ghost use Rattle.std.specs.Prelude.{◌≡◌, ◌+◌, ◌++◌, ◌^◌, ◌<◌, All, IfOk, OnOk};
 ghost use Rattle.std.specs.List.{flat_map};
 ghost use Rattle.stream_match.specs.declared.stretch.Stretch.{Stretch};
-ghost use Rattle.stream_match.specs.Kept.{place_of};
 ghost use Rattle.stream_match.specs.Stretch.{stretch_places};
 
-use crate::place::Place;
 use crate::stretch::Stretch;
+use flow_core_laws::Place;
 use os_io::{List, Memory};
 use std::alloc::Global;
 
@@ -16,7 +15,7 @@ pub(crate) fn places_in(
     room: u32,
 ) -> Result<List<Place>, Memory>
     requires { All (λ (s : Stretch). s.first + s.count < 2 ^ 64) stretches.now }
-    ensures { IfOk result (λ places. map place_of places ≡ flat_map stretch_places stretches.now) }
+    ensures { IfOk result (λ places. places ≡ flat_map stretch_places stretches.now) }
 {
     let mut places = List::with_capacity(alloc, room as usize)?;
     for stretch in stretches {
@@ -28,7 +27,7 @@ pub(crate) fn places_in(
 /// Adds the place of each position of a stretch.
 fn add_places(places: &mut List<Place>, stretch: Stretch) -> Result<(), Memory>
     requires { stretch.first + stretch.count < 2 ^ 64 }
-    ensures { OnOk result (map place_of places.new ≡ map place_of places.old ++ stretch_places stretch) }
+    ensures { OnOk result (places.new ≡ places.old ++ stretch_places stretch) }
 {
     for offset in 0..stretch.count {
         places.push(Place {

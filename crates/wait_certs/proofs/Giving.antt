@@ -8,9 +8,10 @@ use Rattle.std.proofs.lemmas.Bool.Decides.{nat_tests}
 use Rattle.std.proofs.lemmas.List.Folds.{list_any_at}
 use Rattle.std.proofs.lemmas.Option.{same_Some, slice_get_within, slice_get-map, get_or_from_slice_get}
 use Rattle.flow_core_laws.specs.declared.activation.Activation.{Activation}
+use Rattle.flow_core_laws.specs.declared.place.Place.{Place}
 use Rattle.flow_core_laws.specs.declared.task_end.TaskEnd.{TaskEnd}
 use Rattle.flow_core_laws.specs.Outcome.{has_end_at}
-use Rattle.flow_core_laws.specs.Place.{Place, input_places}
+use Rattle.flow_core_laws.specs.Place.{input_places}
 use Rattle.flow_core_laws.specs.There.{is_there, missing_place}
 use Rattle.flow_core_laws.specs.Window.{Window, windows, producer, is_written_by}
 use Rattle.flow_core_laws.proofs.Sources.{find_passes}

@@ -1,11 +1,12 @@
 -- Whether an activation reads an element that another one should write, span by span and position by position.
-use Rattle.std.proofs.Common.{◌≡◌, ℕ, zero, suc, ◌+◌, ◌-◌, ◌<◌, ◌≤◌, ◌||◌, Bool, true, false, cond, List, [], ◌∷◌, ◌++◌, Option, Some, None, length, drop, drop-cons, get_or, map, refl, ap, ◌∙◌, arith}
+use Rattle.std.proofs.Common.{◌≡◌, ℕ, zero, suc, ◌+◌, ◌-◌, ◌<◌, ◌≤◌, ◌||◌, Bool, true, false, cond, List, [], ◌∷◌, Option, Some, None, length, drop, drop-cons, get_or, map, refl, ap, ◌∙◌, arith}
 use Rattle.std.specs.Prelude.{slice_get, option_and_then}
 use Rattle.std.specs.List.{flat_map, list_any, range_with_len}
 use Rattle.std.specs.Option.{option_map}
 use Rattle.std.proofs.lemmas.List.Folds.{list_any-append}
 use Rattle.flow_core_laws.specs.declared.activation.Activation.{Activation}
-use Rattle.flow_core_laws.specs.Place.{Place, places_from, input_places}
+use Rattle.flow_core_laws.specs.declared.place.Place.{Place}
+use Rattle.flow_core_laws.specs.Place.{places_from, input_places}
 use Rattle.flow_core_laws.specs.Window.{Window, windows_of, producer, producer_number}
 use Rattle.stream_match_layouts.specs.declared.layout.Layout.{Layout}
 use Rattle.stream_match_layouts.specs.declared.span.Span.{Span}

@@ -7,12 +7,13 @@ use Rattle.std.proofs.lemmas.Bool.Decides.{nat_tests}
 use Rattle.std.proofs.lemmas.Option.{slice_get_past}
 use Rattle.flow_core_laws.specs.declared.activation.Activation.{Activation}
 use Rattle.flow_core_laws.specs.Outcome.{outcome_at, State, ends_of, has_end_at}
-use Rattle.flow_core_laws.specs.Place.{Place, input_places}
+use Rattle.flow_core_laws.specs.Place.{input_places}
 use Rattle.flow_core_laws.specs.Round.{gathered, inputs_in, meaning, round}
 use Rattle.flow_core_laws.specs.Window.{Window, producer}
 use Rattle.flow_core_laws.proofs.Rounds.{after, after-suc, outcome_at-start, outcome_at-round, outcome_at_past, length-round}
 use Rattle.flow_core_laws.specs.declared.elem.Elem.TheVariants.{Value}
 use Rattle.flow_core_laws.specs.declared.outcome.Outcome.{Outcome}
+use Rattle.flow_core_laws.specs.declared.place.Place.{Place}
 use Rattle.flow_core_laws.specs.Element as elements
 use Rattle.flow_core_laws.specs.Element.{Source, initial, fed}
 use Rattle.flow_core_laws.specs.Poisoning.{poisoning}

@@ -4,11 +4,12 @@ use Rattle.std.proofs.lemmas.Option.{same_Some}
 use Rattle.flow_core_laws.specs.declared.activation.Activation.{Activation}
 use Rattle.flow_core_laws.specs.Outcome.{outcome_at}
 use Rattle.flow_core_laws.specs.Window.{windows}
-use Rattle.flow_core_laws.specs.Place.{Place, input_places}
+use Rattle.flow_core_laws.specs.Place.{input_places}
 use Rattle.flow_core_laws.specs.Round.{meaning, rounds, round}
 use Rattle.flow_core_laws.specs.Streams.{output_count, stream_source, stream_element, stream_meaning}
 use Rattle.flow_core_epochs.specs.Epoch.{number_among, Kept, IsKeptFor, StandsForEpoch, AreChosen, epoch_source, value_kept}
 use Rattle.flow_core_laws.specs.declared.elem.Elem.TheVariants.{Poison}
+use Rattle.flow_core_laws.specs.declared.place.Place.{Place}
 use Rattle.flow_core_laws.specs.declared.task_end.TaskEnd.TheVariants.{Done, Trapped}
 use Rattle.flow_core_laws.specs.Plans.{cell_source, frame_at, plan_reads}
 use Rattle.flow_core_laws.proofs.SoundTests.{IsSound-from_tests}

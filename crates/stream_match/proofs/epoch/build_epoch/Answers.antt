@@ -1,6 +1,6 @@
 use Rattle.std.proofs.Common.{◌∙◌, List, ap, map, subst, sym}
 use Rattle.std.specs.List.{flat_map}
-use Rattle.flow_core_laws.specs.Place.{Place}
+use Rattle.flow_core_laws.specs.declared.place.Place.{Place}
 use Rattle.flow_core_epochs.specs.Epoch.{StandsForEpoch}
 use Rattle.flow_core_epochs.proofs.Choosing.{chosen_all}
 use Rattle.stream_match.specs.Kept.{kept_of}

@@ -1,9 +1,8 @@
 use Rattle.std.proofs.Common.{◌∙◌, ℕ, ◌+◌, ◌++◌, ◌∷◌, [], ap, sym, map, refl}
 use Rattle.std.specs.List.{range_with_len}
-use Rattle.std.proofs.lemmas.List.{append_assoc, map-append}
+use Rattle.std.proofs.lemmas.List.{append_assoc}
 use Rattle.std.proofs.lemmas.List.FromFn.{map-range_with_len_more}
-use Rattle.flow_core_laws.specs.Place.{Place}
-use Rattle.stream_match.specs.Kept.{place_of}
+use Rattle.flow_core_laws.specs.declared.place.Place.{Place}
 use Rattle.stream_match.proofs.places.add_places.Goals as goal
 
 pub loop-offset-preserved : goal.loop-offset-preserved
@@ -11,11 +10,10 @@ loop-offset-preserved c =
     let s = c.args.stretch in
     let k = c.loop-offset.offset in
     let now = c.loop-offset.places in
-    let old = map place_of c.args.places.now in
+    let old = c.args.places.now in
     let f : ℕ → Place = λ position. record { stream = s.stream; position = position } in
-    ap (map place_of) c.in_ok-push.ensures.ok
-    ∙ map-append place_of now (record { stream = s.stream; position = s.first + c.from.result } ∷ [])
-    ∙ ap (λ n. map place_of now ++ f (s.first + n) ∷ []) c.from.ensures
+    c.in_ok-push.ensures.ok
+    ∙ ap (λ n. now ++ f (s.first + n) ∷ []) c.from.ensures
     ∙ ap (λ xs. xs ++ f (s.first + k) ∷ []) c.loop-offset.invariant
     ∙ append_assoc old (map f (range_with_len s.first k)) (f (s.first + k) ∷ [])
     ∙ ap (λ xs. old ++ xs) (sym (map-range_with_len_more f s.first k (s.first + k) refl))

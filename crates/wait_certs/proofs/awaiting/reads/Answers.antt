@@ -1,6 +1,6 @@
 use Rattle.std.proofs.Common.{◌≡◌, ◌∙◌, ◌-◌, ◌+◌, ℕ, Bool, arith, ap, sym}
 use Rattle.std.specs.List.{list_any, range_with_len}
-use Rattle.flow_core_laws.specs.Place.{Place}
+use Rattle.flow_core_laws.specs.declared.place.Place.{Place}
 use Rattle.wait_certs.specs.Searching.{is_produced_by}
 use Rattle.wait_certs.proofs.Reading.{any-map, of_reader, of_writer, position_fails, position_passes}
 use Rattle.wait_certs.proofs.awaiting.reads.Goals as goal
