@@ -32,7 +32,7 @@ mod token;
 mod words;
 
 pub use cover::lex;
-pub use fault::LexError;
+pub use fault::{Fault, LexError};
 pub use laws::{cover_before_fault, cover_cuts, fixed_names_are_numbered, one_cover};
 pub use limits::TEXT_LIMIT;
 pub use token::{Key, Kind, Punct, Token};
