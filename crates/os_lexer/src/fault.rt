@@ -19,7 +19,7 @@ pub enum LexError {
     Memory,
 }
 
-/// What is wrong at a point.
+/// What is wrong at a point, so that the bytes of a text can't be cut into tokens.
 #[derive(Clone, Copy, Debug, PartialEq, Eq)]
 pub enum Fault {
     /// Bytes that begin no token.

@@ -5,7 +5,8 @@
 //!
 //! Its promise is the token cover. From its start on the text is cut into lexemes, each the longest form at its
 //! point, and the tokens are the lexemes that aren't skipped. A text without a cover has a first fault, with a code
-//! and a line. `lex` answers each of the two exactly where it is so, unless memory runs out.
+//! and a line; `Fault` is what is wrong there, and has the code. `lex` answers each of the two exactly where it is
+//! so, unless memory runs out.
 //!
 //! `specs/Cover.antt` is where a reader begins: it says what a cover and a first fault are, over the forms of
 //! `specs/Forms.antt` and what they do, in `specs/Effects.antt`. `specs/Cut.antt` says the same of a cut of the text,
