@@ -1,16 +1,9 @@
 -- The codes of texts that are refused.
 use Rattle.std.specs.Prelude.{ℕ}
-use Rattle.front_end.specs.declared.text_fault.TextFault.{TextFault}
-use Rattle.front_end.specs.declared.text_fault.TextFault.TheVariants.{BadByte, OpenComment, BigNumber}
 use Rattle.front_end.specs.declared.text_refusal.TextRefusal.{TextRefusal}
 use Rattle.front_end.specs.declared.text_refusal.TextRefusal.TheVariants.{Fault, NoProgram, Violated}
 use Rattle.os_ast.specs.Codes.{code}
-
--- the code under which a text is refused for a fault
-abbrev pub text_fault_code : TextFault → ℕ
-text_fault_code BadByte = 1
-text_fault_code OpenComment = 2
-text_fault_code BigNumber = 3
+use Rattle.os_lexer.specs.Effects.{fault_code}
 
 -- the code under which a text is refused whose tokens mean no program
 abbrev pub no_program : ℕ
@@ -18,6 +11,6 @@ no_program = 4
 
 -- the code that a refusal shows
 abbrev pub refusal_code : TextRefusal → ℕ
-refusal_code (Fault fault) = text_fault_code fault
+refusal_code (Fault fault) = fault_code fault
 refusal_code NoProgram = no_program
 refusal_code (Violated rule) = code rule

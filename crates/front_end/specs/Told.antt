@@ -2,10 +2,10 @@
 use Rattle.std.specs.Prelude.{◌≡◌, ⊤}
 use Rattle.front_end.specs.declared.text_error.TextError.{TextError}
 use Rattle.front_end.specs.declared.text_error.TextError.TheVariants as errors
-use Rattle.front_end.specs.declared.text_fault.TextFault.TheVariants as fault
 use Rattle.front_end.specs.declared.text_refusal.TextRefusal.TheVariants as refusals
 use Rattle.os_ast.specs.Codes.{code as code_of}
 use Rattle.os_ast.specs.declared.rule.Rule.{Rule}
+use Rattle.os_lexer.specs.declared.fault.Fault.TheVariants as fault
 use Rattle.os_lexer.specs.declared.fault.LexError.{LexError}
 use Rattle.os_lexer.specs.declared.fault.LexError.TheVariants as lex
 use Rattle.os_parser.specs.declared.parse_error.ParseError.{ParseError}

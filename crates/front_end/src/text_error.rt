@@ -3,10 +3,9 @@ ghost use Rattle.front_end.specs.Told.{HasRule, IsToldViolation, told_fault, tol
 ghost use Rattle.front_end.specs.declared.text_error.TextError.TheVariants as errors;
 ghost use Rattle.front_end.specs.declared.text_refusal.TextRefusal.TheVariants as refusals;
 
-use crate::text_fault::TextFault;
 use crate::text_refusal::TextRefusal;
 use os_ast::Rule;
-use os_lexer::LexError;
+use os_lexer::{Fault, LexError};
 use os_parser::ParseError;
 use thiserror::Error;
 use window_check::CheckError;
@@ -24,7 +23,7 @@ pub enum TextError {
 }
 
 /// What is told of a fault in a line.
-fn refused_for(fault: TextFault, line: u32) -> TextError
+fn refused_for(fault: Fault, line: u32) -> TextError
     ensures { result ≡ errors.Refused (refusals.Fault fault) line }
 {
     TextError::Refused {
@@ -38,9 +37,9 @@ pub(crate) fn fault_error(error: LexError) -> TextError
     ensures { result ≡ told_fault error }
 {
     match error {
-        LexError::BadByte { line } => refused_for(TextFault::BadByte, line),
-        LexError::OpenComment { line } => refused_for(TextFault::OpenComment, line),
-        LexError::BigNumber { line } => refused_for(TextFault::BigNumber, line),
+        LexError::BadByte { line } => refused_for(Fault::BadByte, line),
+        LexError::OpenComment { line } => refused_for(Fault::OpenComment, line),
+        LexError::BigNumber { line } => refused_for(Fault::BigNumber, line),
         LexError::Memory => TextError::Memory,
     }
 }

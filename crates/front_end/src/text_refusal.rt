@@ -1,14 +1,14 @@
 ghost use Rattle.std.specs.Prelude.{◌≡◌};
 ghost use Rattle.front_end.specs.Codes.{refusal_code};
 
-use crate::text_fault::TextFault;
 use os_ast::Rule;
+use os_lexer::Fault;
 
 /// What a text is refused for.
 #[derive(Clone, Copy, Debug, PartialEq, Eq)]
 pub enum TextRefusal {
     /// Its first fault.
-    Fault(TextFault),
+    Fault(Fault),
     /// Its tokens stop being the front of any program.
     NoProgram,
     /// The rule of its least violation.

@@ -19,17 +19,32 @@ pub enum LexError {
     Memory,
 }
 
-/// What is wrong at a point.
-#[derive(Clone, Copy)]
-pub(crate) enum Fault {
+/// What is wrong at a point, so that the bytes of a text can't be cut into tokens.
+#[derive(Clone, Copy, Debug, PartialEq, Eq)]
+pub enum Fault {
+    /// Bytes that begin no token.
     BadByte,
+    /// A comment that is never closed.
     OpenComment,
+    /// A number above the largest one of its type.
     BigNumber,
 }
 
 impl Fault {
     ghost use Rattle.std.specs.Prelude.{◌≡◌};
     ghost use Rattle.os_lexer.specs.Answer.{error_of};
+    ghost use Rattle.os_lexer.specs.Effects.{fault_code};
+
+    /// The code under which a text is refused for it, from 1 to 3.
+    pub fn code(self) -> u8
+        ensures { result ≡ fault_code self }
+    {
+        match self {
+            Fault::BadByte => 1,
+            Fault::OpenComment => 2,
+            Fault::BigNumber => 3,
+        }
+    }
 
     /// The error for this fault on a line.
     pub(crate) fn on_line(self, line: u32) -> LexError

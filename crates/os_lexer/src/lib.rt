@@ -5,7 +5,8 @@
 //!
 //! Its promise is the token cover. From its start on the text is cut into lexemes, each the longest form at its
 //! point, and the tokens are the lexemes that aren't skipped. A text without a cover has a first fault, with a code
-//! and a line. `lex` answers each of the two exactly where it is so, unless memory runs out.
+//! and a line; `Fault` is what is wrong there, and has the code. `lex` answers each of the two exactly where it is
+//! so, unless memory runs out.
 //!
 //! `specs/Cover.antt` is where a reader begins: it says what a cover and a first fault are, over the forms of
 //! `specs/Forms.antt` and what they do, in `specs/Effects.antt`. `specs/Cut.antt` says the same of a cut of the text,
@@ -32,7 +33,7 @@ mod token;
 mod words;
 
 pub use cover::lex;
-pub use fault::LexError;
+pub use fault::{Fault, LexError};
 pub use laws::{cover_before_fault, cover_cuts, fixed_names_are_numbered, one_cover};
 pub use limits::TEXT_LIMIT;
 pub use token::{Key, Kind, Punct, Token};

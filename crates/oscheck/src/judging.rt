@@ -10,10 +10,10 @@ use crate::manner::{Extent, Manner};
 use crate::syntax_error::SyntaxError;
 use crate::telling::{Named, show, tell_more, tell_no_memory, tell_place};
 use crate::warning::tell_accepted;
-use front_end::{TEXT_LIMIT, TextError, TextFault, TextRefusal, read_program};
+use front_end::{TEXT_LIMIT, TextError, TextRefusal, read_program};
 use os_ast::{Rule, Violation};
 use os_io::Memory;
-use os_lexer::{Kind, Token, lex};
+use os_lexer::{Fault, Kind, Token, lex};
 use oscheck_places::{Spot, fault_spot};
 use oscheck_sentences::{Word, of_fault, of_rule, word_of};
 use std::alloc::Global;
@@ -70,7 +70,7 @@ pub(crate) fn tell_fault(
     out: &mut impl io::Write,
     alloc: Global,
     named: Named<'_>,
-    fault: TextFault,
+    fault: Fault,
     line: u32,
 ) -> io::Result<Judged>
     requires { length named.text.now ≤ text_limit }

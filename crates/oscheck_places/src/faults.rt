@@ -5,9 +5,8 @@ ghost use Rattle.std.specs.Prelude.{◌≤◌, length, IfOk, IfSome};
 ghost use Rattle.os_lexer.specs.Limits.{text_limit};
 
 use crate::spot::Spot;
-use front_end::TextFault;
 use os_io::Memory;
-use os_lexer::{LexError, lex};
+use os_lexer::{Fault, LexError, lex};
 use std::alloc::Global;
 
 /// How many bytes of a line are tried at most.
@@ -17,7 +16,7 @@ const MOST: usize = 64;
 #[derive(Clone, Copy, PartialEq, Eq)]
 enum Answer {
     Tokens,
-    Fault(TextFault),
+    Fault(Fault),
 }
 
 /// What the lexer says of the front of a text.
@@ -26,9 +25,9 @@ fn says(alloc: Global, text: &[u8], end: usize) -> Result<Answer, Memory>
 {
     match lex(alloc, &text[..end.min(text.len())]) {
         Ok(_) => Ok(Answer::Tokens),
-        Err(LexError::BadByte { .. }) => Ok(Answer::Fault(TextFault::BadByte)),
-        Err(LexError::OpenComment { .. }) => Ok(Answer::Fault(TextFault::OpenComment)),
-        Err(LexError::BigNumber { .. }) => Ok(Answer::Fault(TextFault::BigNumber)),
+        Err(LexError::BadByte { .. }) => Ok(Answer::Fault(Fault::BadByte)),
+        Err(LexError::OpenComment { .. }) => Ok(Answer::Fault(Fault::OpenComment)),
+        Err(LexError::BigNumber { .. }) => Ok(Answer::Fault(Fault::BigNumber)),
         Err(LexError::Memory) => Err(Memory),
     }
 }
@@ -122,10 +121,10 @@ fn is_harmless(byte: u8) -> bool {
 }
 
 /// Where a fault ends that would begin at a point; none where it could not begin there.
-fn fault_end(text: &[u8], fault: TextFault, point: usize) -> Option<usize> {
+fn fault_end(text: &[u8], fault: Fault, point: usize) -> Option<usize> {
     let byte = byte_at(text, point);
     let next = point.saturating_add(1);
-    if fault == TextFault::OpenComment {
+    if fault == Fault::OpenComment {
         let opens = byte == b'/' && byte_at(text, next) == b'*';
         let behind = point.saturating_add(2);
         return if opens && !is_closed(text, behind) {
@@ -142,10 +141,10 @@ fn fault_end(text: &[u8], fault: TextFault, point: usize) -> Option<usize> {
             None
         };
     }
-    if fault == TextFault::BadByte && byte == b'#' {
+    if fault == Fault::BadByte && byte == b'#' {
         return Some(word_end(text, blanks_end(text, next)));
     }
-    if fault == TextFault::BadByte && !is_harmless(byte) {
+    if fault == Fault::BadByte && !is_harmless(byte) {
         Some(next)
     } else {
         None
@@ -157,7 +156,7 @@ fn fault_end(text: &[u8], fault: TextFault, point: usize) -> Option<usize> {
 fn begins_at(
     alloc: Global,
     text: &[u8],
-    fault: TextFault,
+    fault: Fault,
     point: usize,
     end: usize,
 ) -> Result<bool, Memory>
@@ -190,7 +189,7 @@ fn begin_of(text: &[u8], line: u32) -> usize {
 pub fn fault_spot(
     alloc: Global,
     text: &[u8],
-    fault: TextFault,
+    fault: Fault,
     line: u32,
 ) -> Result<Option<Spot>, Memory>
     requires { length text.now ≤ text_limit }

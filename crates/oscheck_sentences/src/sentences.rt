@@ -1,9 +1,8 @@
 //! What each rule and each fault says to who wrote the text: what is wrong, and what to do.
 
 use crate::word::Word;
-use front_end::TextFault;
 use os_ast::Rule;
-use os_lexer::Kind;
+use os_lexer::{Fault, Kind};
 use std::io;
 
 /// A sentence about a word, which stands between its two parts.
@@ -173,10 +172,10 @@ fn of_number(bytes: &[u8]) -> Sentence {
 }
 
 /// What is said of the first fault of a text, by what it is and its bytes.
-pub fn of_fault(fault: TextFault, bytes: &[u8]) -> Sentence {
+pub fn of_fault(fault: Fault, bytes: &[u8]) -> Sentence {
     match fault {
-        TextFault::BadByte => of_bytes(bytes),
-        TextFault::OpenComment => plain("a comment that is never closed: end it by */"),
-        TextFault::BigNumber => of_number(bytes),
+        Fault::BadByte => of_bytes(bytes),
+        Fault::OpenComment => plain("a comment that is never closed: end it by */"),
+        Fault::BigNumber => of_number(bytes),
     }
 }

@@ -26,7 +26,7 @@ use Rattle.osrun_core_answer.proofs.Findings.{small_status}
 use Rattle.osrun_core_answer.specs.Gen.{IsRunOfGen, gen_lines}
 use Rattle.osrun_core_answer.specs.JobOutcome.{GivesReplay, GivesRun, IsOutcome, IsOutcomeOfCompile, IsOutcomeOfExec, IsOutcomeOfExplain, IsOutcomeOfGen, IsOutcomeOfReplay, IsOutcomeOfRun, IsOutcomeOfTrace, JobOutcome, replay_budgets}
 use Rattle.osrun_core_jobs.specs.Files.{AreBytesOf, JobFile, files_of, limit_of}
-use Rattle.osrun_core_jobs.specs.Jobs.{Compile, CompileJob, Exec, ExecJob, Explain, ExplainJob, Gen, GenJob, IsRequestWithin, Job, Replay, ReplayJob, Request, Run, Trace, TraceJob, compile_in, exec_in, explain_in, gen_in, replay_in, run_in, trace_in}
+use Rattle.osrun_core_jobs.specs.Jobs.{Compile, CompileJob, Exec, ExecJob, Explain, ExplainJob, Gen, GenJob, IsRequestWithin, Job, Replay, ReplayJob, Request, Run, Trace, compile_in, exec_in, explain_in, gen_in, replay_in, run_in, trace_in}
 use Rattle.osrun_core_jobs.specs.Reading.{EndedAt, IsCauseOf, IsFailed, IsReadable, IsRejected, ReadsInOrder, WereRead}
 use Rattle.osrun_core_jobs.specs.Refusal.{refusal_line, refusal_status, usage_line}
 use Rattle.osrun_core_jobs.specs.Status.{status_code}
@@ -97,7 +97,7 @@ on_explain (Some (Explain job)) P f = f job refl
 on_explain (Some (Trace job)) P f = tt
 on_explain (Some (Replay job)) P f = tt
 
-on_trace : (asked : Option Request) (P : TraceJob → Type 0) → ((job : TraceJob) → asked ≡ Some (Trace job) → P job) → IfSome (option_and_then trace_in asked) P
+on_trace : (asked : Option Request) (P : Job → Type 0) → ((job : Job) → asked ≡ Some (Trace job) → P job) → IfSome (option_and_then trace_in asked) P
 on_trace None P f = tt
 on_trace (Some (Run job)) P f = tt
 on_trace (Some (Gen job)) P f = tt
@@ -342,7 +342,7 @@ module _ {F : Type 0} (view : FilesView F) where
       }
 
   -- the run that was traced, by what its files have given
-  the_trace : (job : TraceJob) (old new : F) (contents : List (List ℕ)) (outcome : JobOutcome) (o : IsOutcomeOfTrace contents job outcome)
+  the_trace : (job : Job) (old new : F) (contents : List (List ℕ)) (outcome : JobOutcome) (o : IsOutcomeOfTrace contents job outcome)
       → WereRead IsUsable view old new (files_of (Trace job)) contents
       → IsTraceOfJob (view.holds old) job (view.given new) o.run outcome.output
   the_trace job old new contents outcome o read =
@@ -1025,7 +1025,7 @@ module _ {F O E : Type 0} (of_files : FilesView F) (fo fn : F) (of_out : SinkVie
 
   -- ---- `trace`
 
-  made_trace : (made : IsMade of_files fo fn asked) (job : TraceJob) → asked ≡ Some (Trace job) → (o : IsOutcomeOfTrace made.contents job made.outcome)
+  made_trace : (made : IsMade of_files fo fn asked) (job : Job) → asked ≡ Some (Trace job) → (o : IsOutcomeOfTrace made.contents job made.outcome)
       × IsTraceOfJob (of_files.holds fo) job (of_files.given fn) o.run made.outcome.output
   made_trace made job is =
       let same : made.request ≡ Trace job = one asked made.request (Trace job) made.is_asked is in

@@ -6,7 +6,7 @@ use Rattle.front_end.specs.Texts.{IsAccepted}
 use Rattle.os_ast.specs.Trees.{ProgramTree}
 use Rattle.osrun_core_answer.specs.JobOutcome.{replay_budgets}
 use Rattle.osrun_core_jobs.specs.Files.{AreBytesOf}
-use Rattle.osrun_core_jobs.specs.Jobs.{Job, ReplayJob, TraceJob, traced_run}
+use Rattle.osrun_core_jobs.specs.Jobs.{Job, ReplayJob}
 use Rattle.osrun_core_jobs.specs.declared.subject.Subject.TheVariants.{Input, Program, Trace}
 use Rattle.osrun_core_run.specs.Replay.{IsReplayOf}
 use Rattle.osrun_core_run.specs.ReplayLine.{IsReplayLine}
@@ -18,8 +18,8 @@ use Rattle.trace_replay_text.specs.Trace.{IsTraceOf, trace}
 
 -- The run is that of the job's program over its input, and the text is the trace of lists, one for each worker, in which each
 -- activation with an end stands once, and nothing else. Of the file opened last `given` bytes were given.
-pub record IsTraceOfJob (holds : List ℕ → Option (List ℕ)) (job : TraceJob) (given : ℕ) (run : ProgramRun) (text : List ℕ) : Type 0 where
-  pub is_run : IsRunOfJob holds (traced_run job) run
+pub record IsTraceOfJob (holds : List ℕ → Option (List ℕ)) (job : Job) (given : ℕ) (run : ProgramRun) (text : List ℕ) : Type 0 where
+  pub is_run : IsRunOfJob holds job run
   pub given_is : given ≡ length run.input
   pub lists : List (List ℕ)
   pub one_each : length lists ≡ job.workers

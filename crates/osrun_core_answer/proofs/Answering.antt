@@ -20,7 +20,7 @@ use Rattle.osrun_core_answer.specs.declared.make_trace.TracedRun.{TracedRun}
 use Rattle.osrun_core_answer.proofs.Findings.{small_status}
 use Rattle.osrun_core_jobs.specs.Files.{JobFile, files_of, limit_of}
 use Rattle.osrun_core_jobs.specs.HandsOver.{HandsOver}
-use Rattle.osrun_core_jobs.specs.Jobs.{Compile, CompileJob, Exec, ExecJob, Explain, ExplainJob, Gen, GenJob, IsExecWithin, IsExplainWithin, IsGenWithin, IsReplayWithin, IsRequestWithin, IsTraceWithin, IsWithin, Job, Replay as ReplayRequest, ReplayJob, Request, Run, Trace, TraceJob}
+use Rattle.osrun_core_jobs.specs.Jobs.{Compile, CompileJob, Exec, ExecJob, Explain, ExplainJob, Gen, GenJob, IsExecWithin, IsExplainWithin, IsGenWithin, IsReplayWithin, IsRequestWithin, IsWithin, Job, Replay as ReplayRequest, ReplayJob, Request, Run, Trace}
 use Rattle.osrun_core_jobs.specs.Reading.{IsCauseOf, IsFailed, IsReadable, IsRejected, ReadsInOrder, WasRead, WereRead}
 use Rattle.osrun_core_jobs.specs.Refusal.{refusal_status, usage_line}
 use Rattle.osrun_core_jobs.specs.Refuses.{Refuses}
@@ -388,7 +388,7 @@ module _ {F O E : Type 0} (of_files : FilesView F) (files_old files_new : F) (of
 -- ---- a trace
 
 module _ {F O E : Type 0} (of_files : FilesView F) (files_old files_new : F) (of_out : SinkView O) (out_old out_new : O)
-    (of_report : SinkView E) (report_old report_new : E) (both : NeverUsableAndRefused) (job : TraceJob) (within : IsTraceWithin job) where
+    (of_report : SinkView E) (report_old report_new : E) (both : NeverUsableAndRefused) (job : Job) (within : IsWithin job) where
   module _ (traced : TracedRun) (is : IsTracedOf of_files files_old files_new job traced) (own : Status) (own_is : status_code own ≡ status traced.run.ends.ends traced.run.control) where
     abbrev run : MadeRun
     run = traced.run

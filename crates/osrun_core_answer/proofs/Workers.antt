@@ -26,7 +26,7 @@ use Rattle.osrun_core_answer.specs.Gen.{four_lines, gen_budget, gen_lines}
 use Rattle.osrun_core_answer.specs.Laws.{IsTold, ObjectsRunAsTexts, SameButForWorkers, TracesReportAsRuns, TracesReportTheSame, WorkersChangeNothing}
 use Rattle.osrun_core_answer.specs.JobOutcome.{IsOutcome, IsOutcomeOfExec, IsOutcomeOfExplain, IsOutcomeOfGen, IsOutcomeOfRun, IsOutcomeOfTrace, JobOutcome}
 use Rattle.osrun_core_jobs.specs.Files.{JobFile, files_of}
-use Rattle.osrun_core_jobs.specs.Jobs.{Compile, Exec, ExecJob, Explain, ExplainJob, Gen, GenJob, Job, Replay, Request, Run, Trace, TraceJob, traced_run}
+use Rattle.osrun_core_jobs.specs.Jobs.{Compile, Exec, ExecJob, Explain, ExplainJob, Gen, GenJob, Job, Replay, Request, Run, Trace}
 use Rattle.osrun_core_jobs.specs.Reading.{WereRead}
 use Rattle.osrun_core_run.specs.Code.{IsCodeOf}
 use Rattle.osrun_core_run.specs.Refusal.{IsUsable}
@@ -106,8 +106,8 @@ is_gen_outcome_of contents job outcome o =
     ∙ ap (λ input. run_of o.is_run.program input gen_budget gen_budget) o.is_run.input_is)
 
 -- the run of which a trace is written, with what `run` gives of it
-untraced : (contents : List (List ℕ)) (trace : TraceJob) (traced : JobOutcome) (o : IsOutcomeOfTrace contents trace traced)
-    → IsOutcomeOfRun contents (traced_run trace) (record { output = written o.run.ends.output; told = traced.told; own = traced.own })
+untraced : (contents : List (List ℕ)) (trace : Job) (traced : JobOutcome) (o : IsOutcomeOfTrace contents trace traced)
+    → IsOutcomeOfRun contents trace (record { output = written o.run.ends.output; told = traced.told; own = traced.own })
 untraced contents trace traced o = record {
   text = o.text;
   run = o.run;
@@ -242,12 +242,12 @@ module _ (one : OneProgram) (reading : OneReading) (walks : OneWalk) where
   pub report_as_runs : TracesReportAsRuns
   report_as_runs contents trace run traced of_run same o q =
       let as_run : JobOutcome = record { output = written o.run.ends.output; told = traced.told; own = traced.own } in
-      let e : as_run ≡ of_run = of_runs contents (traced_run trace) run as_run of_run same (untraced contents trace traced o) q in
+      let e : as_run ≡ of_run = of_runs contents trace run as_run of_run same (untraced contents trace traced o) q in
       (ap (λ x. x.told) e, ap (λ x. x.own) e)
 
   pub report_the_same : TracesReportTheSame
   report_the_same contents trace other traced another same o q =
-      report_as_runs contents trace (traced_run other) traced (record { output = written q.run.ends.output; told = another.told; own = another.own })
+      report_as_runs contents trace other traced (record { output = written q.run.ends.output; told = another.told; own = another.own })
       same o (untraced contents other another q)
 
 -- the object of a text's code runs as the text

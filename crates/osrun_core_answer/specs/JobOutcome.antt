@@ -17,7 +17,7 @@ use Rattle.epoch_run_bodies.specs.Frames.{code_ends}
 use Rattle.osrun_core_answer.specs.Explained.{Explains}
 use Rattle.osrun_core_answer.specs.Gen.{IsRunOfGen, gen_lines}
 use Rattle.osrun_core_jobs.specs.Jobs.{Compile, CompileJob, Exec, ExecJob, Explain, ExplainJob, Gen}
-use Rattle.osrun_core_jobs.specs.Jobs.{GenJob, Job, Replay, ReplayJob, Request, Run, Trace, TraceJob}
+use Rattle.osrun_core_jobs.specs.Jobs.{GenJob, Job, Replay, ReplayJob, Request, Run, Trace}
 use Rattle.osrun_core_jobs.specs.Status.{status_code}
 use Rattle.osrun_core_jobs.specs.declared.status.Status.TheVariants as statuses
 use Rattle.osrun_core_run.specs.Code.{IsCodeOf, IsObjectOf}
@@ -103,7 +103,7 @@ pub record IsOutcomeOfExplain (contents : List (List ℕ)) (job : ExplainJob) (o
 -- Of `trace`: the run is that of `run` with the same files and budgets. The output is the trace of some lists, one for each worker:
 -- each activation of the run that has an end stands in them once, and nothing else does. Which worker ran what, and when, isn't said.
 -- The report and the status are those of the run.
-pub record IsOutcomeOfTrace (contents : List (List ℕ)) (job : TraceJob) (outcome : JobOutcome) : Type 0 where
+pub record IsOutcomeOfTrace (contents : List (List ℕ)) (job : Job) (outcome : JobOutcome) : Type 0 where
   pub text : List ℕ
   pub run : ProgramRun
   pub contents_are : contents ≡ text ∷ run.input ∷ []

@@ -2,7 +2,7 @@
 use Rattle.std.specs.Prelude.{◌≡◌, ℕ, List, [], ◌∷◌, Option, Some}
 use Rattle.osrun_core_answer.specs.JobOutcome.{IsOutcome, IsOutcomeOfCompile, IsOutcomeOfExec, IsOutcomeOfRun, IsOutcomeOfTrace, JobOutcome}
 use Rattle.osrun_core_jobs.specs.Files.{JobFile}
-use Rattle.osrun_core_jobs.specs.Jobs.{CompileJob, Exec, ExecJob, Explain, Gen, Job, Request, Run, TraceJob, traced_run}
+use Rattle.osrun_core_jobs.specs.Jobs.{CompileJob, Exec, ExecJob, Explain, Gen, Job, Request, Run}
 
 -- the requests are the same, but for the number of workers
 abbrev pub SameButForWorkers : Request → Request → Type 0
@@ -15,9 +15,9 @@ SameButForWorkers (Explain job) (Explain other) = (job.program ≡ other.program
     × (job.task_budget ≡ other.task_budget) × (job.control_budget ≡ other.control_budget)
 SameButForWorkers _ _ = ⊥
 
--- the requests are the same, but for the number of workers and for the trace that is written
-abbrev pub TracesTheRun : TraceJob → Job → Type 0
-TracesTheRun trace run = SameButForWorkers (Run (traced_run trace)) (Run run)
+-- the jobs are of the same run, but for the number of workers
+abbrev pub SameRun : Job → Job → Type 0
+SameRun job other = SameButForWorkers (Run job) (Run other)
 
 -- what the file holds is told
 abbrev pub IsTold : (List ℕ → Option (List ℕ)) → JobFile → Type 0
@@ -31,16 +31,12 @@ WorkersChangeNothing = (contents : List (List ℕ)) (request other : Request) (o
 -- `trace` is meant to give the report and the status of `run` over the same bytes, whatever the numbers of workers. So two calls of
 -- `trace` that differ in that number alone are meant to give the same report and status, while their traces may differ.
 abbrev pub TracesReportAsRuns : Type 0
-TracesReportAsRuns = (contents : List (List ℕ)) (trace : TraceJob) (run : Job) (traced of_run : JobOutcome) → TracesTheRun trace run
+TracesReportAsRuns = (contents : List (List ℕ)) (trace run : Job) (traced of_run : JobOutcome) → SameRun trace run
     → IsOutcomeOfTrace contents trace traced → IsOutcomeOfRun contents run of_run → (traced.told ≡ of_run.told) × (traced.own ≡ of_run.own)
 
--- two traces of the same run, but for the number of workers
-abbrev pub SameTracedRun : TraceJob → TraceJob → Type 0
-SameTracedRun trace other = TracesTheRun trace (traced_run other)
-
--- over the same bytes they are meant to give the same report and status
+-- over the same bytes two traces of the same run, but for the number of workers, are meant to give the same report and status
 abbrev pub TracesReportTheSame : Type 0
-TracesReportTheSame = (contents : List (List ℕ)) (trace other : TraceJob) (traced another : JobOutcome) → SameTracedRun trace other
+TracesReportTheSame = (contents : List (List ℕ)) (trace other : Job) (traced another : JobOutcome) → SameRun trace other
     → IsOutcomeOfTrace contents trace traced → IsOutcomeOfTrace contents other another → (traced.told ≡ another.told) × (traced.own ≡ another.own)
 
 -- the run of a program and that of an object are asked for with the same budgets

@@ -16,7 +16,7 @@ use Rattle.os_object.specs.Object.{Spells}
 use Rattle.osrun_core_jobs.specs.Files.{JobFile, files_of}
 use Rattle.osrun_core_jobs.specs.HandsOver.{HandsOver}
 use Rattle.osrun_core_jobs.specs.Jobs.{Compile, CompileJob, Exec, ExecJob, Explain, ExplainJob, Gen, GenJob, Job}
-use Rattle.osrun_core_jobs.specs.Jobs.{Replay as ReplayRequest, ReplayJob, Run, Trace, TraceJob, traced_run}
+use Rattle.osrun_core_jobs.specs.Jobs.{Replay as ReplayRequest, ReplayJob, Run, Trace}
 use Rattle.osrun_core_jobs.specs.Reading.{IsCauseOf, IsFailed, Opened, ReadsInOrder, WasRead, WereRead}
 use Rattle.osrun_core_jobs.specs.Status.{status_code}
 use Rattle.osrun_core_jobs.specs.declared.refusal.Refusal.{Refusal}
@@ -118,11 +118,11 @@ pub record TracesEnded (workers : ℕ) (ends : List (Option TaskEnd)) (text : Li
   pub text_is : text ≡ trace lists
 
 -- the files were read, the run is that of the one over the other, and the text is its trace
-pub record IsTracedOf {F : Type 0} (view : FilesView F) (old new : F) (job : TraceJob) (traced : TracedRun) : Type 0 where
-  pub made : IsMadeOf view old new (traced_run job) traced.run
+pub record IsTracedOf {F : Type 0} (view : FilesView F) (old new : F) (job : Job) (traced : TracedRun) : Type 0 where
+  pub made : IsMadeOf view old new job traced.run
   pub traces : TracesEnded job.workers traced.run.ends.ends traced.text.items
 
-abbrev pub MakesTrace : {F : Type 0} → FilesView F → F → F → TraceJob → Result TracedRun Refusal → Type 0
+abbrev pub MakesTrace : {F : Type 0} → FilesView F → F → F → Job → Result TracedRun Refusal → Type 0
 MakesTrace view old new job result = MatchResult result (IsTracedOf view old new job) (IsUnmadeOf view old new (files_of (Trace job)))
 
 -- the three files were read, and this came of the lists of the third one where the program of the first one was run by them over

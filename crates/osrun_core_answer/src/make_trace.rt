@@ -3,12 +3,12 @@ ghost use Rattle.flow_core_laws.specs.Limits.{input_limit};
 ghost use Rattle.os_ast.specs.Views.{program_tree};
 ghost use Rattle.osrun_core_answer.specs.Made.{MakesTrace, TracesEnded};
 ghost use Rattle.osrun_core_jobs.specs.Files.{MayOpen, files_of};
-ghost use Rattle.osrun_core_jobs.specs.Jobs.{IsTraceWithin, Trace as TraceRequest, trace_of};
+ghost use Rattle.osrun_core_jobs.specs.Jobs.{IsWithin, Trace as TraceRequest, job_of};
 ghost use Rattle.osrun_core_run.specs.RunOf.{AreTerms, IsRunOf};
 
 use crate::make_run::read_program;
 use os_io::{Files, Memory};
-use osrun_core_jobs::{Refusal, Subject, Terms, TraceJob, load};
+use osrun_core_jobs::{Job, Refusal, Subject, Terms, load};
 use osrun_core_run::{MadeRun, trace_program};
 use std::alloc::Global;
 use std::thread::Threads;
@@ -53,13 +53,13 @@ fn trace_run<R: Threads + Sync, G: Gate>(
 pub fn make_trace<R: Threads + Sync, F: Files, G: Gate>(
     rt: &R,
     alloc: Global,
-    job: &TraceJob<'_>,
+    job: &Job<'_>,
     files: &mut F,
     gate: &G,
 ) -> Result<TracedRun, Refusal>
-    requires may { MayOpen (F.may files.old) (F.opens files.old) (files_of (TraceRequest (trace_of job.now))) }
-    requires within { IsTraceWithin (trace_of job.now) }
-    ensures { MakesTrace F.Files files.old files.new (trace_of job.now) result }
+    requires may { MayOpen (F.may files.old) (F.opens files.old) (files_of (TraceRequest (job_of job.now))) }
+    requires within { IsWithin (job_of job.now) }
+    ensures { MakesTrace F.Files files.old files.new (job_of job.now) result }
 {
     let checked = read_program(alloc, files, job.program)?;
     let input = load(alloc, files, job.input, Subject::Input)?;

@@ -1,12 +1,12 @@
 ghost use Rattle.std.specs.Prelude.{Some};
 ghost use Rattle.osrun_core_answer.specs.Answers.{AnswersRequest};
 ghost use Rattle.osrun_core_jobs.specs.Files.{MayOpen, files_of};
-ghost use Rattle.osrun_core_jobs.specs.Jobs.{IsTraceWithin, Trace as TraceRequest, trace_of};
+ghost use Rattle.osrun_core_jobs.specs.Jobs.{IsWithin, Trace as TraceRequest, job_of};
 ghost use Rattle.osrun_core_jobs.specs.Status.{status_code};
 
 use crate::make_trace::make_trace;
 use os_io::{Files, Sink};
-use osrun_core_jobs::{Status, TraceJob, deliver, refuse};
+use osrun_core_jobs::{Job, Status, deliver, refuse};
 use osrun_core_run::laws::never_usable_and_refused;
 use std::alloc::Global;
 use std::thread::Threads;
@@ -17,16 +17,16 @@ use task_workers::Gate;
 pub fn answer_trace<R: Threads + Sync, F: Files, O: Sink, E: Sink, G: Gate>(
     rt: &R,
     alloc: Global,
-    job: &TraceJob<'_>,
+    job: &Job<'_>,
     files: &mut F,
     out: &mut O,
     report: &mut E,
     gate: &G,
 ) -> Status
-    requires within { IsTraceWithin (trace_of job.now) }
-    requires may { MayOpen (F.may files.old) (F.opens files.old) (files_of (TraceRequest (trace_of job.now))) }
+    requires within { IsWithin (job_of job.now) }
+    requires may { MayOpen (F.may files.old) (F.opens files.old) (files_of (TraceRequest (job_of job.now))) }
     ensures { AnswersRequest F.Files files.old files.new O.Sink out.old out.new E.Sink report.old report.new
-        (Some (TraceRequest (trace_of job.now))) (status_code result) }
+        (Some (TraceRequest (job_of job.now))) (status_code result) }
 {
     never_usable_and_refused();
     match make_trace(rt, alloc, job, files, gate) {

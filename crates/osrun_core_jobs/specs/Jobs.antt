@@ -10,7 +10,6 @@ use Rattle.osrun_core_jobs.specs.declared.job.Job.{Job as Lent}
 use Rattle.osrun_core_jobs.specs.declared.job.ReplayJob.{ReplayJob as LentReplay}
 use Rattle.osrun_core_jobs.specs.declared.job.Request.{Request as LentRequest}
 use Rattle.osrun_core_jobs.specs.declared.job.Request.TheVariants as lent
-use Rattle.osrun_core_jobs.specs.declared.job.TraceJob.{TraceJob as LentTrace}
 
 -- a run of a program over an input, by the names of their files, with as many workers and turns
 pub record Job : Type 0 where
@@ -58,25 +57,6 @@ explained_run job = record {
   control_budget = job.control_budget;
 }
 
--- which activations each worker of a run runs, in which order: the run of a program over an input, by the names of their
--- files, with as many workers and turns
-pub record TraceJob : Type 0 where
-  pub program : List ℕ
-  pub input : List ℕ
-  pub workers : ℕ
-  pub task_budget : ℕ
-  pub control_budget : ℕ
-
--- the run of which a trace is written
-abbrev pub traced_run : TraceJob → Job
-traced_run job = record {
-  program = job.program;
-  input = job.input;
-  workers = job.workers;
-  task_budget = job.task_budget;
-  control_budget = job.control_budget;
-}
-
 -- a run of a program over an input in the order that a trace tells, by the names of the three files, with as many turns
 pub record ReplayJob : Type 0 where
   pub program : List ℕ
@@ -92,7 +72,7 @@ pub data Request : Type 0 where
   Compile : CompileJob → Request
   Exec : ExecJob → Request
   Explain : ExplainJob → Request
-  Trace : TraceJob → Request
+  Trace : Job → Request
   Replay : ReplayJob → Request
 
 -- the job of a `run` request; none for others
@@ -146,7 +126,7 @@ explain_in (Trace job) = None
 explain_in (Replay job) = None
 
 -- the job of a `trace` request; none for others
-abbrev pub trace_in : Request → Option TraceJob
+abbrev pub trace_in : Request → Option Job
 trace_in (Run job) = None
 trace_in (Gen job) = None
 trace_in (Compile job) = None
@@ -192,12 +172,6 @@ pub record IsExplainWithin (job : ExplainJob) : Type 0 where
   pub task_turns : job.task_budget ≤ budget_limit
   pub control_turns : job.control_budget ≤ budget_limit
 
-pub record IsTraceWithin (job : TraceJob) : Type 0 where
-  pub some_workers : 1 ≤ job.workers
-  pub few_workers : job.workers ≤ workers_limit
-  pub task_turns : job.task_budget ≤ budget_limit
-  pub control_turns : job.control_budget ≤ budget_limit
-
 pub record IsReplayWithin (job : ReplayJob) : Type 0 where
   pub task_turns : job.task_budget ≤ budget_limit
   pub control_turns : job.control_budget ≤ budget_limit
@@ -208,7 +182,7 @@ IsRequestWithin (Gen job) = IsGenWithin job
 IsRequestWithin (Compile job) = Unit {0}
 IsRequestWithin (Exec job) = IsExecWithin job
 IsRequestWithin (Explain job) = IsExplainWithin job
-IsRequestWithin (Trace job) = IsTraceWithin job
+IsRequestWithin (Trace job) = IsWithin job
 IsRequestWithin (Replay job) = IsReplayWithin job
 
 -- ---- what the code's values show
@@ -248,15 +222,6 @@ explain_of job = record {
   control_budget = job.terms.control_budget;
 }
 
-abbrev pub trace_of : LentTrace → TraceJob
-trace_of job = record {
-  program = job.program.now;
-  input = job.input.now;
-  workers = job.terms.workers;
-  task_budget = job.terms.task_budget;
-  control_budget = job.terms.control_budget;
-}
-
 abbrev pub replay_of : LentReplay → ReplayJob
 replay_of job = record {
   program = job.program.now;
@@ -272,5 +237,5 @@ request_of (lent.Gen job) = Gen (gen_of job)
 request_of (lent.Compile job) = Compile (compile_of job)
 request_of (lent.Exec job) = Exec (exec_of job)
 request_of (lent.Explain job) = Explain (explain_of job)
-request_of (lent.Trace job) = Trace (trace_of job)
+request_of (lent.Trace job) = Trace (job_of job)
 request_of (lent.Replay job) = Replay (replay_of job)

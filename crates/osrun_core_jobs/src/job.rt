@@ -63,18 +63,6 @@ pub struct ExplainJob<'w> {
     pub terms: Terms,
 }
 
-/// Which activations each worker of a run runs, in which order. The run is that of a program over an input, by the names of
-/// their files; it is made whole over one table.
-#[derive(Clone, Copy, Debug)]
-pub struct TraceJob<'w> {
-    /// The name of the program's file.
-    pub program: &'w str,
-    /// The name of the input's file.
-    pub input: &'w str,
-    /// With how many workers and turns.
-    pub terms: Terms,
-}
-
 /// A run of a program over an input, in the order that a trace tells. All three are names of files.
 #[derive(Clone, Copy, Debug)]
 pub struct ReplayJob<'w> {
@@ -103,8 +91,8 @@ pub enum Request<'w> {
     Exec(ExecJob<'w>),
     /// To tell why an activation never runs.
     Explain(ExplainJob<'w>),
-    /// To run a program over an input, and to write which activations each worker ran.
-    Trace(TraceJob<'w>),
+    /// To run a program over an input, whole over one table, and to write which activations each worker ran, in which order.
+    Trace(Job<'w>),
     /// To run a program over an input in the order that a trace tells.
     Replay(ReplayJob<'w>),
 }

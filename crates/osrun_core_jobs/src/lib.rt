@@ -19,7 +19,7 @@ mod subject;
 mod telling;
 
 pub use delivering::{Lines, NoLines, deliver};
-pub use job::{CompileJob, ExecJob, ExplainJob, GenJob, Job, ReplayJob, Request, Terms, TraceJob};
+pub use job::{CompileJob, ExecJob, ExplainJob, GenJob, Job, ReplayJob, Request, Terms};
 pub use limits::{BLOCKS_LIMIT, SEED_LIMIT};
 pub use line::Line;
 pub use loading::load;

@@ -8,7 +8,7 @@ use Rattle.clap.specs.Words.{App, Kinds, Row, Text, fault_of, matches_of}
 use Rattle.osrun_core_words.specs.Arguments.{Argument, name, number, option, name_in, argument_number, simple_command}
 use Rattle.osrun_core_jobs.specs.Limits.{blocks_limit, seed_limit}
 use Rattle.osrun_core_jobs.specs.Jobs.{Compile, CompileJob, Exec, ExecJob, Explain, ExplainJob, Gen, GenJob, Job, Replay, ReplayJob, Request}
-use Rattle.osrun_core_jobs.specs.Jobs.{Run, Trace, TraceJob, compile_in, exec_in, explain_in, gen_in, replay_in, run_in, trace_in}
+use Rattle.osrun_core_jobs.specs.Jobs.{Run, Trace, compile_in, exec_in, explain_in, gen_in, replay_in, run_in, trace_in}
 
 -- ---- the commands
 
@@ -171,7 +171,7 @@ abbrev pub named_explain : List Text → Option ExplainJob
 named_explain words = option_and_then explain_in (command words)
 
 -- the run that the words ask to be traced
-abbrev pub named_trace : List Text → Option TraceJob
+abbrev pub named_trace : List Text → Option Job
 named_trace words = option_and_then trace_in (command words)
 
 -- the run that the words ask to be made in the order of a trace

@@ -15,9 +15,7 @@ use crate::table::{
 };
 use crate::words_error::WordsError;
 use clap::ArgMatches;
-use osrun_core_jobs::{
-    CompileJob, ExecJob, ExplainJob, GenJob, Job, ReplayJob, Request, Terms, TraceJob,
-};
+use osrun_core_jobs::{CompileJob, ExecJob, ExplainJob, GenJob, Job, ReplayJob, Request, Terms};
 use std::alloc::Global;
 
 /// The name that an argument was given.
@@ -123,7 +121,7 @@ fn read_trace<'w>(alloc: Global, words: &'w [String]) -> Result<Request<'w>, Wor
     ensures refused { result ≡ Err errors.Refused → request_by trace_form (texts words.entry.now) ≡ None }
 {
     let matches = parse(alloc, TRACE, words)?;
-    Ok(Request::Trace(TraceJob {
+    Ok(Request::Trace(Job {
         program: name_of(&matches, PROGRAM),
         input: name_of(&matches, INPUT),
         terms: Terms {

@@ -22,13 +22,13 @@ pub record IsMade {F : Type 0} (of_files : FilesView F) (files_old files_new : F
   pub read : WereRead IsUsable of_files files_old files_new (files_of (Run job)) (text ∷ input ∷ [])
   pub is_report : IsReportOf job.task_budget job.control_budget text input told own
 
--- The report was handed over to the output, and nothing to the other sink: the status is that of the run, or the output did
--- not take all.
-pub record IsGiven {F O E : Type 0} (of_files : FilesView F) (files_old files_new : F) (of_out : SinkView O) (out_old out_new : O)
-    (of_report : SinkView E) (report_old report_new : E) (job : Job) (answered : Status) : Type 0 where
+-- What was made, with a status of its own, was handed over to the output, and nothing to the other sink: the status is that one, or
+-- the output did not take all.
+pub record IsHandedOver {O E : Type 0} (Makes : (told : List ℕ) (own : ℕ) → Type 0) (of_out : SinkView O) (out_old out_new : O)
+    (of_report : SinkView E) (report_old report_new : E) (answered : Status) : Type 0 where
   pub told : List ℕ
   pub own : Status
-  pub made : IsMade of_files files_old files_new job told (status_code own)
+  pub made : Makes told (status_code own)
   pub handed : HandsOver of_out out_old out_new told of_report report_old report_new [] own answered
 
 -- One of the files is the cause, or memory was wanted; that is told, and nothing was written on the output.
@@ -40,7 +40,8 @@ pub record IsFileRefused {F O E : Type 0} (of_files : FilesView F) (files_old fi
   pub output_kept : out_new ≡ out_old
   pub report : Refuses of_report report_old report_new refusal
 
+-- the report of the run was handed over, or it is told why there is none
 abbrev pub AnswersReport : {F O E : Type 0} → FilesView F → F → F → SinkView O → O → O → SinkView E → E → E → Job → Status → Type 0
 AnswersReport of_files files_old files_new of_out out_old out_new of_report report_old report_new job answered =
-    IsGiven of_files files_old files_new of_out out_old out_new of_report report_old report_new job answered
+    IsHandedOver (IsMade of_files files_old files_new job) of_out out_old out_new of_report report_old report_new answered
     ⊎ IsFileRefused of_files files_old files_new out_old out_new of_report report_old report_new job answered

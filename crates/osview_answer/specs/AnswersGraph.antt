@@ -3,13 +3,11 @@ use Rattle.std.specs.Prelude.{◌⊎◌, ℕ, List, [], ◌∷◌}
 use Rattle.os_io.specs.declared.files.Files.{Ghosts as FilesView}
 use Rattle.os_io.specs.declared.sink.Sink.{Ghosts as SinkView}
 use Rattle.osrun_core_jobs.specs.Files.{files_of}
-use Rattle.osrun_core_jobs.specs.HandsOver.{HandsOver}
 use Rattle.osrun_core_jobs.specs.Jobs.{Job, Run}
 use Rattle.osrun_core_jobs.specs.Reading.{WereRead}
-use Rattle.osrun_core_jobs.specs.Status.{status_code}
 use Rattle.osrun_core_jobs.specs.declared.status.Status.{Status}
 use Rattle.osrun_core_run.specs.Refusal.{IsUsable}
-use Rattle.osview_answer.specs.Answers.{IsFileRefused}
+use Rattle.osview_answer.specs.Answers.{IsFileRefused, IsHandedOver}
 use Rattle.osview_answer.specs.Drawn.{IsGraphOf}
 use Rattle.osview_graph.specs.declared.drawn.GraphChoice.{GraphChoice}
 
@@ -20,16 +18,8 @@ pub record IsGraphMade {F : Type 0} (of_files : FilesView F) (files_old files_ne
   pub read : WereRead IsUsable of_files files_old files_new (files_of (Run job)) (text ∷ input ∷ [])
   pub is_graph : IsGraphOf job.task_budget job.control_budget text input view told own
 
--- The graph was handed over to the output, and nothing to the other sink: the status is that of the run, or the output did
--- not take all.
-pub record IsGraphGiven {F O E : Type 0} (of_files : FilesView F) (files_old files_new : F) (of_out : SinkView O) (out_old out_new : O)
-    (of_report : SinkView E) (report_old report_new : E) (job : Job) (view : GraphChoice) (answered : Status) : Type 0 where
-  pub told : List ℕ
-  pub own : Status
-  pub made : IsGraphMade of_files files_old files_new job view told (status_code own)
-  pub handed : HandsOver of_out out_old out_new told of_report report_old report_new [] own answered
-
+-- the graph of the run was handed over, or it is told why there is none
 abbrev pub AnswersGraph : {F O E : Type 0} → FilesView F → F → F → SinkView O → O → O → SinkView E → E → E → Job → GraphChoice → Status → Type 0
 AnswersGraph of_files files_old files_new of_out out_old out_new of_report report_old report_new job view answered =
-    IsGraphGiven of_files files_old files_new of_out out_old out_new of_report report_old report_new job view answered
+    IsHandedOver (IsGraphMade of_files files_old files_new job view) of_out out_old out_new of_report report_old report_new answered
     ⊎ IsFileRefused of_files files_old files_new out_old out_new of_report report_old report_new job answered

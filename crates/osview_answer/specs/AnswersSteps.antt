@@ -4,14 +4,13 @@ use Rattle.os_io.specs.declared.files.Files.{Ghosts as FilesView}
 use Rattle.os_io.specs.declared.sink.Sink.{Ghosts as SinkView}
 use Rattle.osrun_core_answer.specs.Made.{IsUnmadeOf}
 use Rattle.osrun_core_jobs.specs.Files.{files_of}
-use Rattle.osrun_core_jobs.specs.HandsOver.{HandsOver}
 use Rattle.osrun_core_jobs.specs.Jobs.{Job, Run}
 use Rattle.osrun_core_jobs.specs.Reading.{WereRead}
 use Rattle.osrun_core_jobs.specs.Status.{status_code}
 use Rattle.osrun_core_jobs.specs.declared.refusal.Refusal.{Refusal}
 use Rattle.osrun_core_jobs.specs.declared.status.Status.{Status}
 use Rattle.osrun_core_run.specs.Refusal.{IsUsable}
-use Rattle.osview_answer.specs.Answers.{IsFileRefused}
+use Rattle.osview_answer.specs.Answers.{IsFileRefused, IsHandedOver}
 use Rattle.osview_answer.specs.Steps.{AreStepsOf}
 use Rattle.osview_answer.specs.declared.telling.RunAnswer.{RunAnswer}
 
@@ -27,16 +26,8 @@ abbrev pub MakesSteps : {F : Type 0} → FilesView F → F → F → Job → Res
 MakesSteps view old new job result = MatchResult result
     (λ told. AreMeasured view old new job told.text.items (status_code told.status)) (IsUnmadeOf view old new (files_of (Run job)))
 
--- The lines were handed over to the output, and nothing to the other sink: the status is that of the run, or the output did
--- not take all.
-pub record StepsAreGiven {F O E : Type 0} (of_files : FilesView F) (files_old files_new : F) (of_out : SinkView O) (out_old out_new : O)
-    (of_report : SinkView E) (report_old report_new : E) (job : Job) (answered : Status) : Type 0 where
-  pub told : List ℕ
-  pub own : Status
-  pub measured : AreMeasured of_files files_old files_new job told (status_code own)
-  pub handed : HandsOver of_out out_old out_new told of_report report_old report_new [] own answered
-
+-- the lines of steps were handed over, or it is told why there are none
 abbrev pub AnswersSteps : {F O E : Type 0} → FilesView F → F → F → SinkView O → O → O → SinkView E → E → E → Job → Status → Type 0
 AnswersSteps of_files files_old files_new of_out out_old out_new of_report report_old report_new job answered =
-    StepsAreGiven of_files files_old files_new of_out out_old out_new of_report report_old report_new job answered
+    IsHandedOver (AreMeasured of_files files_old files_new job) of_out out_old out_new of_report report_old report_new answered
     ⊎ IsFileRefused of_files files_old files_new out_old out_new of_report report_old report_new job answered

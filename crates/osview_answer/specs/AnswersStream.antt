@@ -4,15 +4,13 @@ use Rattle.os_io.specs.Lines.{ended_line}
 use Rattle.os_io.specs.declared.files.Files.{Ghosts as FilesView}
 use Rattle.os_io.specs.declared.sink.Sink.{Ghosts as SinkView}
 use Rattle.osrun_core_jobs.specs.Files.{files_of}
-use Rattle.osrun_core_jobs.specs.HandsOver.{HandsOver}
 use Rattle.osrun_core_jobs.specs.Jobs.{Job, Run}
 use Rattle.osrun_core_jobs.specs.Reading.{WereRead}
-use Rattle.osrun_core_jobs.specs.Status.{status_code}
 use Rattle.osrun_core_jobs.specs.Telling.{Tells}
 use Rattle.osrun_core_jobs.specs.declared.status.Status.{Status}
 use Rattle.osrun_core_jobs.specs.declared.status.Status.TheVariants.{BadWords}
 use Rattle.osrun_core_run.specs.Refusal.{IsUsable}
-use Rattle.osview_answer.specs.Answers.{IsFileRefused}
+use Rattle.osview_answer.specs.Answers.{IsFileRefused, IsHandedOver}
 use Rattle.osview_answer.specs.Elements.{AreElementsOf, NamesNone}
 
 -- what is asked: the stream with this name, from a position on, and how many positions at most
@@ -32,15 +30,6 @@ pub record AreMade {F : Type 0} (of_files : FilesView F) (files_old files_new : 
   pub read : WereRead IsUsable of_files files_old files_new (files_of (Run job)) (text ∷ input ∷ [])
   pub are_elements : AreElementsOf job.task_budget job.control_budget text input asked.name asked.first asked.count told own
 
--- The lines were handed over to the output, and nothing to the other sink: the status is that of the run, or the output did
--- not take all.
-pub record AreGiven {F O E : Type 0} (of_files : FilesView F) (files_old files_new : F) (of_out : SinkView O) (out_old out_new : O)
-    (of_report : SinkView E) (report_old report_new : E) (job : Job) (asked : Asked) (answered : Status) : Type 0 where
-  pub told : List ℕ
-  pub own : Status
-  pub made : AreMade of_files files_old files_new job asked told (status_code own)
-  pub handed : HandsOver of_out out_old out_new told of_report report_old report_new [] own answered
-
 -- Both files were read, and the program has no stream with this name.
 pub record IsUnnamed {F : Type 0} (of_files : FilesView F) (files_old files_new : F) (job : Job) (asked : Asked) : Type 0 where
   pub text : List ℕ
@@ -56,8 +45,9 @@ pub record IsToldSo {F O E : Type 0} (of_files : FilesView F) (files_old files_n
   pub output_kept : out_new ≡ out_old
   pub report : Tells of_report report_old report_new (unnamed_line asked.name)
 
+-- the lines of the stream were handed over, or it is told that no stream has the name, or why there is no run
 abbrev pub AnswersStream : {F O E : Type 0} → FilesView F → F → F → SinkView O → O → O → SinkView E → E → E → Job → Asked → Status → Type 0
 AnswersStream of_files files_old files_new of_out out_old out_new of_report report_old report_new job asked answered =
-    AreGiven of_files files_old files_new of_out out_old out_new of_report report_old report_new job asked answered
+    IsHandedOver (AreMade of_files files_old files_new job asked) of_out out_old out_new of_report report_old report_new answered
     ⊎ (IsToldSo of_files files_old files_new out_old out_new of_report report_old report_new job asked answered
     ⊎ IsFileRefused of_files files_old files_new out_old out_new of_report report_old report_new job answered)

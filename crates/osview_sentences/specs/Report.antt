@@ -1,10 +1,11 @@
 -- The report in sentences.
-use Rattle.std.specs.Prelude.{ℕ, ◌+◌, ◌==◌, if◌then◌else◌, List, [], ◌++◌, codes, count_by, drop, length, slice_get, take}
+use Rattle.std.specs.Prelude.{ℕ, ◌+◌, ◌==◌, if◌then◌else◌, List, [], ◌∷◌, ◌++◌, codes, count_by, drop, find, length, slice_get, take, unwrap_or}
 use Rattle.std.specs.Fmt.{decimal}
 use Rattle.std.specs.List.{flat_map, list_any, range_with_len}
 use Rattle.std.specs.Option.{option_map_or}
 use Rattle.c_int.specs.ControlLimits.{limit_code}
-use Rattle.c_int.specs.declared.control_limit.ControlLimit.TheVariants.{Activations}
+use Rattle.c_int.specs.declared.control_limit.ControlLimit.{ControlLimit}
+use Rattle.c_int.specs.declared.control_limit.ControlLimit.TheVariants.{Activations, Elements}
 use Rattle.os_io.specs.Lines.{ended_line}
 use Rattle.collector.specs.Status.{has_done}
 use Rattle.collector.specs.Written.{written}
@@ -46,10 +47,17 @@ abbrev pub created_text : ℕ → List ℕ
 created_text count = codes " after " ++ decimal count ++ activation_word count
 
 -- what stopped `main` at a limit
+abbrev pub limit_words : ControlLimit → List ℕ
+limit_words Activations = codes ", as many as there may be: larger blocks need fewer"
+limit_words Elements = codes ": the windows of one more would cover more than 4194304 elements in all"
+
+-- all limits
+abbrev pub limits : List ControlLimit
+limits = Activations ∷ Elements ∷ []
+
+-- what stopped `main`, by the code of the limit; a code of no limit is told as that of the elements
 abbrev pub limit_text : ℕ → List ℕ
-limit_text limit =
-    if limit == limit_code Activations then codes ", as many as there may be: larger blocks need fewer"
-    else codes ": the windows of one more would cover more than 4194304 elements in all"
+limit_text code = limit_words (unwrap_or (find (λ limit. code == limit_code limit) limits) Elements)
 
 -- how `main` ended
 abbrev pub control_text : ControlEnd → ℕ → List ℕ

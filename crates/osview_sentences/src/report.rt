@@ -1,11 +1,10 @@
 ghost use Rattle.std.specs.Prelude.{◌≡◌, ◌++◌, List, IfOk, OnOk, count_by, length};
-ghost use Rattle.c_int.specs.ControlLimits.{limit_code};
 ghost use Rattle.collector.specs.Status.{has_done};
 ghost use Rattle.collector.specs.Written.{written};
 ghost use Rattle.os_io.specs.Lines.{ended_line};
 ghost use Rattle.flow_core_laws.specs.declared.activation.Activation.{Activation};
 ghost use Rattle.flow_core_laws.specs.Place.{written_count};
-ghost use Rattle.osview_sentences.specs.Report.{control_text, created_text, heading, likewise_text, limit_text};
+ghost use Rattle.osview_sentences.specs.Report.{control_text, created_text, heading, likewise_text, limit_text, limit_words};
 ghost use Rattle.osview_sentences.specs.Report.{more_text, report, sentence_lines, share_text};
 ghost use Rattle.osview_sentences.specs.FirstReaders.{AreReaders};
 ghost use Rattle.osview_sentences.specs.Readers.{also_text};
@@ -240,7 +239,7 @@ fn add_heading(told: &mut Text, control: ControlEnd, count: Counts) -> Result<()
 
 /// What stopped `main` at a limit.
 fn limit_words(limit: ControlLimit) -> &'static [u8]
-    ensures { result.now ≡ limit_text (limit_code limit) }
+    ensures { result.now ≡ limit_words limit }
 {
     match limit {
         ControlLimit::Activations => b", as many as there may be: larger blocks need fewer",

@@ -3,7 +3,7 @@ use Rattle.std.proofs.lemmas.Result.{err_from_is_err_and}
 use Rattle.os_ast.specs.Views.{program_tree}
 use Rattle.osrun_core_answer.proofs.Loaded.{not_loaded, opened_so, was_read}
 use Rattle.osrun_core_answer.proofs.MadeRun.{both_read, cause_of_first, cause_of_second, input_file, may_open_first, may_open_second, memory_wanted, program_file}
-use Rattle.osrun_core_jobs.specs.Jobs.{trace_of}
+use Rattle.osrun_core_jobs.specs.Jobs.{job_of}
 use Rattle.osrun_core_jobs.specs.declared.subject.Subject.TheVariants as subjects
 use Rattle.osrun_core_run.specs.RunOf.{IsRunOf}
 use Rattle.osrun_core_answer.proofs.make_trace.make_trace.Goals as goal
@@ -47,7 +47,7 @@ returns-in_err-traced g c =
 
 pub returns : goal.returns
 returns g c =
-    let job = trace_of c.args.job.now in
+    let job = job_of c.args.job.now in
     let was = c.in_ok-checked.ensures in
     let l = c.in_ok-input.ensures in
     let between = c.read_program.new.files in

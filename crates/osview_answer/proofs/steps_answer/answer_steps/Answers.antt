@@ -8,7 +8,7 @@ returns-in-Ok g c =
     inl (record {
       told = told.text.items;
       own = told.status;
-      measured = c.in-Ok.ensures;
+      made = c.in-Ok.ensures;
       handed = subst (λ bytes. HandsOver g.O.Sink c.args.out.now c.deliver.new.out bytes g.E.Sink c.args.report.now c.deliver.new.report [] told.status c.deliver.result)
           c.deref.ensures.value (c.deliver.ensures [] refl);
     })
