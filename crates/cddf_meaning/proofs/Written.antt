@@ -39,10 +39,10 @@ write-has : (write : Bool) (horizon sum : ℕ) (vs rest : List ℤ) → length v
 write-has true horizon sum vs rest h e = length-append vs rest ∙ omega (arith, h, e)
 write-has false horizon sum vs rest h e = omega (arith, e)
 
-first-of : {a b : ℕ} {ms ns : List ℕ} → a ∷ ms ≡ b ∷ ns → a ≡ b
+pub first-of : {a b : ℕ} {ms ns : List ℕ} → a ∷ ms ≡ b ∷ ns → a ≡ b
 first-of h = cc
 
-others-of : {a b : ℕ} {ms ns : List ℕ} → a ∷ ms ≡ b ∷ ns → ms ≡ ns
+pub others-of : {a b : ℕ} {ms ns : List ℕ} → a ∷ ms ≡ b ∷ ns → ms ≡ ns
 others-of h = cc
 
 outputs_of-has : (claims : List Claim) (items : List (List ℤ)) → map length items ≡ map (λ (c : Claim). c.horizon) claims →

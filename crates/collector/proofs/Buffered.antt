@@ -14,7 +14,7 @@ append_known-append : (known : Option (List ℕ)) (front back : List ℕ) → ap
 append_known-append None front back = refl
 append_known-append (Some bytes) front back = ap Some (append_assoc bytes front back)
 
-append_known-nil : (known : Option (List ℕ)) → known ≡ append_known known []
+pub append_known-nil : (known : Option (List ℕ)) → known ≡ append_known known []
 append_known-nil None = refl
 append_known-nil (Some bytes) = ap Some (sym (append-nil bytes))
 

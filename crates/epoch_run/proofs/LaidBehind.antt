@@ -1,7 +1,8 @@
 -- The layout with the spans of the next activations behind its own.
 use Rattle.std.proofs.Common.{◌≡◌, ℕ, ◌+◌, ◌<◌, Bool, cond, true, false, List, [], ◌∷◌, ◌++◌, All, length, map, get_or, set, refl, sym, ap, ◌∙◌, subst, arith}
 use Rattle.std.proofs.lemmas.List.{append-nil, append_assoc, length-append, length-map, length-set, get_or-map}
-use Rattle.std.proofs.lemmas.List.Elements.{All-map, All-tail}
+use Rattle.std.proofs.lemmas.List.Elements.{All-map}
+use Rattle.epoch_run_shares.proofs.Passing.{All-back}
 use Rattle.flow_core_laws.specs.declared.activation.Activation.{Activation}
 use Rattle.flow_core_laws.specs.declared.claim.Claim.{Claim}
 use Rattle.flow_core_laws.specs.Window.{Window, claims_of, windows}
@@ -63,10 +64,6 @@ joined-with_next layout next frame claim offset =
     ∙ ap (l ((layout.spans ++ next.spans) ++ s ∷ [])) (with_writers-push layout.writers (length layout.spans) next.spans s ∙ ap (λ k. with_writer ws k s) (sym (length-append layout.spans next.spans)))
 
 -- ---- what was laid out for lawful activations can be put behind the layout
-
-All-back : {X : Type 0} (P : X → Type 0) (xs ys : List X) → All P (xs ++ ys) → All P ys
-All-back P [] ys h = h
-All-back P (x ∷ xs) ys h = All-back P xs ys (All-tail P x (xs ++ ys) h)
 
 module _ (layout : Layout) (next : NextSpans) (all : List Activation) (is_of : IsLayoutOf (joined layout next) all) (lawful : AreLawful (length layout.writers) all) where
   claims_lawful : All (IsLawfulClaim (length layout.writers)) (map (λ (w : Window). w.claim) (windows all))

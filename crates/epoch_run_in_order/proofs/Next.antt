@@ -1,10 +1,9 @@
 -- The next activation of a run in control order: how much it reads and writes, and where the run stands behind it.
-use Rattle.std.proofs.Common.{◌≡◌, ℕ, ℤ, ◌+◌, ◌<◌, ◌≤◌, List, [], ◌∷◌, ◌++◌, Option, Some, None, IsSome, Bool, true, false, cond, map, length, get_or, take, zero, suc, refl, sym, ap, ◌∙◌, subst, arith, zero-add, rules}
+use Rattle.std.proofs.Common.{◌≡◌, ℕ, ℤ, ◌+◌, ◌<◌, ◌≤◌, List, [], ◌∷◌, ◌++◌, Option, Some, None, IsSome, true, map, length, get_or, take, zero, suc, refl, sym, ap, ◌∙◌, subst, arith, zero-add, rules}
 use Rattle.std.specs.Prelude.{slice_get, filter, sum_by, All}
 use Rattle.std.specs.Option.{option_map, option_map_or}
 use Rattle.std.proofs.lemmas.List.{get_or-map, length-map, map-append}
 use Rattle.std.proofs.lemmas.List.Elements.{All-append}
-use Rattle.std.proofs.lemmas.List.Sums.{sum_by-cons}
 use Rattle.flow_core_laws.specs.declared.activation.Activation.{Activation}
 use Rattle.flow_core_laws.specs.declared.claim.Claim.{Claim}
 use Rattle.flow_core_laws.specs.declared.elem.Elem.{Elem}
@@ -29,9 +28,9 @@ use Rattle.epoch_run_bodies.proofs.Counts.{length-reads}
 use Rattle.epoch_run_bodies.specs.Frames.{frame_outcome}
 use Rattle.epoch_run_in_order_laws.proofs.OneMore.{goes_on}
 use Rattle.stream_match_layouts.specs.declared.span.Span.{Span}
-use Rattle.stream_match_layouts.specs.Layout.{claims_in, span_of}
+use Rattle.stream_match_layouts.specs.Layout.{span_of}
 use Rattle.stream_match_layouts.specs.Spans.{write_count}
-use Rattle.stream_match_layouts.proofs.FrameSpans.{claims_in-windows_of}
+use Rattle.stream_match_layouts.proofs.FrameSpans.{claims_in-windows_of, written_spans}
 use Rattle.epoch_run_in_order.specs.declared.in_order.InOrder.{InOrder}
 use Rattle.epoch_run_in_order.specs.declared.inputs.Inputs.{Inputs}
 use Rattle.epoch_run_in_order.specs.declared.streams.Streams.{Streams}
@@ -69,21 +68,12 @@ next_inputs streams input count next spans are =
     ∙ sym (length-map (input_places acts n) (stream_source acts []))
     ∙ length-reads acts [] n next (last_there are.before next)
 
--- and writes as many as it has outputs
-written_sum : (ws : List Window) → sum_by write_count (map span_of ws) ≡ sum_by (λ (c : Claim). c.horizon) (filter (λ (c : Claim). c.write) (claims_in ws))
-written_sum [] = refl
-written_sum (w ∷ ws) = sum_by-cons write_count (span_of w) (map span_of ws) ∙ ap (λ n. cond {A = ℕ} w.claim.write w.claim.horizon 0 + n) (written_sum ws) ∙ at w.claim.write
-  where
-    at : (b : Bool) → cond {A = ℕ} b w.claim.horizon 0 + sum_by (λ (c : Claim). c.horizon) (filter (λ (c : Claim). c.write) (claims_in ws)) ≡ sum_by (λ (c : Claim). c.horizon) (cond b (w.claim ∷ filter (λ (c : Claim). c.write) (claims_in ws)) (filter (λ (c : Claim). c.write) (claims_in ws)))
-    at true = sym (sum_by-cons (λ (c : Claim). c.horizon) w.claim (filter (λ (c : Claim). c.write) (claims_in ws)))
-    at false = zero-add (sum_by (λ (c : Claim). c.horizon) (filter (λ (c : Claim). c.write) (claims_in ws)))
-
 pub next_outputs : (count : ℕ) (next : Activation) (spans : List Span) → AreNext count next spans → sum_by write_count spans ≡ output_count next
 next_outputs count next spans are =
     let acts = are.before ++ next ∷ [] in
     let n = length are.before in
     ap (sum_by write_count) (are.are_theirs ∙ ap (λ k. map span_of (windows_of acts k)) (sym are.as_many))
-    ∙ written_sum (windows_of acts n)
+    ∙ written_spans (windows_of acts n)
     ∙ ap (λ cs. sum_by (λ (c : Claim). c.horizon) (filter (λ (c : Claim). c.write) cs)) (claims_in-windows_of acts n ∙ claims_there are.before next)
 
 -- where it writes, its outputs have room

@@ -1,11 +1,10 @@
 -- That what a run in control order holds is held between two epochs.
-use Rattle.std.proofs.Common.{[], ◌≡◌, ℕ, zero, suc, ◌+◌, ◌-◌, ◌<◌, ◌≤◌, ℤ, List, ◌∷◌, ◌++◌, Option, Some, None, true, map, drop, length, refl, sym, ap, ◌∙◌, subst, arith, map-id}
+use Rattle.std.proofs.Common.{[], ◌≡◌, ℕ, zero, suc, ◌+◌, ◌-◌, ◌<◌, ◌≤◌, ℤ, List, ◌∷◌, ◌++◌, Option, Some, None, map, drop, length, refl, sym, ap, ◌∙◌, subst, arith, map-id}
 use Rattle.std.specs.Prelude.{All, IsSome, is_some, slice_index, slice_index_or, ◌==◌}
 use Rattle.std.specs.List.{range_with_len, flat_map}
 use Rattle.std.proofs.lemmas.Bool.{and_parts, eqb-true}
 use Rattle.std.proofs.lemmas.List.{drop-map, length-map}
 use Rattle.std.proofs.lemmas.List.FromFn.{length-map-range_with_len}
-use Rattle.std.proofs.lemmas.Option.{same_Some}
 use Rattle.std.proofs.lemmas.Simd.{map-map}
 use Rattle.flow_core_laws.specs.declared.activation.Activation.{Activation}
 use Rattle.flow_core_laws.specs.declared.claim.Claim.{Claim}
@@ -23,10 +22,10 @@ use Rattle.flow_core_laws.proofs.Stretches.{flat_map-range-same}
 use Rattle.flow_core_laws.proofs.Windows.{written}
 use Rattle.flow_core_epochs.specs.Epoch.{IsCarried, IsHeld, Kept, elements_at, open_in, read_from, value_kept}
 use Rattle.flow_core_epochs.proofs.Apart.{Apart, apart_elements, apart_flat_map, apart_range}
-use Rattle.flow_core_epochs.proofs.Carried.{all_has, has_all, has_claim, is_producer, kept_there, there_produced}
+use Rattle.flow_core_epochs.proofs.Carried.{all_has, has_all, has_claim, is_producer, kept_there, there_produced, in_elements, of_elements, there_value}
 use Rattle.flow_core_epochs.proofs.Frames.{open_each}
 use Rattle.flow_core_epochs.proofs.Held.{written_within}
-use Rattle.flow_core_epochs.proofs.Members.{Has, has_tail, in_flat_map, in_map, in_range, of_flat_map, of_map, of_range}
+use Rattle.flow_core_epochs.proofs.Members.{Has, in_flat_map, in_map, in_range, of_flat_map, of_map, of_range}
 use Rattle.flow_core_epochs.proofs.Reading.{read_from_least}
 use Rattle.epoch_run_in_order_laws.specs.InOrder.{HaveAllEnded, HoldElements, elements_on, kept_in, kept_on}
 
@@ -70,39 +69,6 @@ elements_joined g (p ∷ ps) qs = by_value (g p) (elements_joined g ps qs)
 elements_parts : (g : Place → Option Elem) (f : ℕ → List Place) (xs : List ℕ) → flat_map (λ s. elements_at (f s) (map g (f s))) xs ≡ elements_at (flat_map f xs) (map g (flat_map f xs))
 elements_parts g f [] = refl
 elements_parts g f (x ∷ xs) = ap (λ (ks : List Kept). elements_at (f x) (map g (f x)) ++ ks) (elements_parts g f xs) ∙ sym (elements_joined g (f x) (flat_map f xs))
-
--- an element that is there stands among those at its places, and each of them is there
-in_elements : (g : Place → Option Elem) (places : List Place) (p : Place) (v : Elem) → Has places p → g p ≡ Some v → Has (elements_at places (map g places)) (record { place = p; value = v })
-in_elements g [] p v (i, at) e = absurd (cc)
-in_elements g (q ∷ places) p v h e = by_value (g q) refl h (λ t. in_elements g places p v t e)
-  where
-    by_value : (o : Option Elem) → g q ≡ o → Has (q ∷ places) p → (Has places p → Has (elements_at places (map g places)) (record { place = p; value = v })) → Has (elements_at (q ∷ places) (o ∷ map g places)) (record { place = p; value = v })
-    by_value None q_is (zero, at) rest = absurd (let z : g q ≡ Some v = ap g (same_Some q p at) ∙ e in cc)
-    by_value None q_is (suc i, at) rest = rest (i, at)
-    by_value (Some u) q_is (zero, at) rest =
-        let same = same_Some q p at in
-        let value : u ≡ v = same_Some u v (sym q_is ∙ ap g same ∙ e) in
-        (0, ap Some (ap (λ (r : Place). record { place = r; value = u }) same ∙ ap (λ (n : Elem). record { place = p; value = n }) value))
-    by_value (Some u) q_is (suc i, at) rest = has_tail _ _ _ (rest (i, at))
-
-of_elements : (g : Place → Option Elem) (places : List Place) (k : Kept) → Has (elements_at places (map g places)) k → (Has places k.place) × (g k.place ≡ Some k.value)
-of_elements g [] k (i, at) = absurd (cc)
-of_elements g (q ∷ places) k h = by_value (g q) refl h (of_elements g places k)
-  where
-    tail : (Has places k.place) × (g k.place ≡ Some k.value) → (Has (q ∷ places) k.place) × (g k.place ≡ Some k.value)
-    tail r = (has_tail q places k.place r.0, r.1)
-
-    by_value : (o : Option Elem) → g q ≡ o → Has (elements_at (q ∷ places) (o ∷ map g places)) k → (Has (elements_at places (map g places)) k → (Has places k.place) × (g k.place ≡ Some k.value)) → (Has (q ∷ places) k.place) × (g k.place ≡ Some k.value)
-    by_value None q_is h rest = tail (rest h)
-    by_value (Some u) q_is (zero, at) rest =
-        let same = same_Some (record { place = q; value = u }) k at in
-        let place : q ≡ k.place = ap (λ (k : Kept). k.place) same in
-        ((0, ap Some place), ap g (sym place) ∙ q_is ∙ ap Some (ap (λ (k : Kept). k.value) same))
-    by_value (Some u) q_is (suc i, at) rest = tail (rest (i, at))
-
-there_value : {A : Type 0} (o : Option A) → is_some o ≡ true → (x : A) × (o ≡ Some x)
-there_value None h = absurd (cc)
-there_value (Some x) h = (x, refl)
 
 -- what a run in control order keeps is what stands at the places of the declared streams from their first positions on
 module _ (activations : List Activation) (input : List ℕ) (state : State) (elements : List (List (Option Elem))) (firsts : List ℕ) (hold : HoldElements activations input state elements firsts) where

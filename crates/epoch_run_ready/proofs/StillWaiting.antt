@@ -7,7 +7,7 @@ use Rattle.std.proofs.lemmas.List.{get_or_past, length-map}
 use Rattle.std.proofs.lemmas.Option.{same_Some, slice_get_within}
 use Rattle.epoch_run_ready.proofs.Stuck.{contained}
 use Rattle.flow_core_epochs.proofs.Carried.{producer_less}
-use Rattle.flow_core_epochs.proofs.Choosing.{end_in}
+use Rattle.flow_core_epochs.proofs.Choosing.{end_in, no_end}
 use Rattle.flow_core_epochs.proofs.Members.{Has, of_map}
 use Rattle.flow_core_epochs.proofs.Prefixes.{input_places_more}
 use Rattle.flow_core_epochs.specs.Epoch.{CannotCome, ServesAll, left_out, unwritten}
@@ -47,10 +47,6 @@ not_gathered {A = A} {V = V} f (x ∷ xs) none = by (f x) refl none (not_gathere
     by (Some v) is h behind =
         let (y, (i, at), missing) = behind (rest v (gathered (map f xs)) h) in
         (y, (suc i, at), missing)
-
-no_end : (o : Option Outcome) → option_map (λ (o : Outcome). o.end) o ≡ None → o ≡ None
-no_end None h = refl
-no_end (Some o) h = absurd (cc)
 
 module _ (before new : List Activation) (input : List ℕ) (body : ℕ → List ℤ → Outcome) (takes : ℕ → ℕ → ℕ → Type 0) (serves : ServesAll (before ++ new) body takes) where
   abbrev all : List Activation

@@ -1,3 +1,3 @@
-mod Passing
+pub mod Passing
 mod OneByOne
 mod Shares

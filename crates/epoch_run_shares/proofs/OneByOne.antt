@@ -1,10 +1,11 @@
 -- Activations of a share, one by one.
-use Rattle.std.proofs.Common.{◌≡◌, ℕ, ◌+◌, ◌<◌, List, [], ◌∷◌, ◌++◌, Some, true, false, All, length, take, drop, map, get_or, refl, sym, ap, ◌∙◌, subst, arith}
+use Rattle.std.proofs.Common.{◌≡◌, ℕ, ◌+◌, ◌<◌, List, [], ◌∷◌, ◌++◌, Some, true, false, All, length, take, drop, map, get_or, sym, ap, ◌∙◌, subst, arith}
 use Rattle.std.specs.Prelude.{slice_get, sum_by}
 use Rattle.std.specs.List.{range_with_len}
 use Rattle.std.proofs.lemmas.List.{append-nil, append_assoc, length-append, length-take-le, take-append-drop, take_all}
 use Rattle.std.proofs.lemmas.List.Elements.{All-cons, All-head, All-nil, All-tail}
-use Rattle.std.proofs.lemmas.List.Sums.{sum_by-append, sum_by-cons}
+use Rattle.std.proofs.lemmas.List.Sums.{sum_by-append}
+use Rattle.stream_match_layouts.proofs.Tallies.{sum_counts}
 use Rattle.epoch_run_in_order.specs.Standing.{AreNext, IsReady, StandsApart, meaning_in}
 use Rattle.epoch_run_in_order.specs.declared.streams.Streams.{Streams}
 use Rattle.epoch_run_in_order_laws.specs.Apart.{HoldWritten}
@@ -29,11 +30,6 @@ use Rattle.epoch_run_shares.specs.declared.positions.Positions.{Positions}
 use Rattle.epoch_run_shares.proofs.Passing.{All-back, windows_of-last}
 
 -- ---- the spans of an activation
-
-counts : (ws : List Window) → sum_by (λ (s : Span). s.count) (map span_of ws) ≡ sum_by (λ (c : Claim). c.horizon) (claims_in ws)
-counts [] = refl
-counts (w ∷ ws) =
-    sum_by-cons (λ (s : Span). s.count) (span_of w) (map span_of ws) ∙ ap (λ n. w.claim.horizon + n) (counts ws) ∙ sym (sum_by-cons (λ (c : Claim). c.horizon) w.claim (claims_in ws))
 
 on_streams : (streams : ℕ) (ws : List Window) → All (IsLawfulClaim streams) (claims_in ws) → All (λ (s : Span). s.stream < streams) (map span_of ws)
 on_streams streams [] h = All-nil (λ (s : Span). s.stream < streams)
@@ -70,7 +66,7 @@ module _ (code : Code) (x : Activation) (positions : Positions) (apart : Apart) 
         let f = may.lawful.activations_are_few in
         let p = may.lawful.positions_are_few in
         let s = ap (sum_by (λ (c : Claim). c.horizon)) (claims_of-push may.passed x) ∙ sum_by-append (λ (c : Claim). c.horizon) (claims_of may.passed) x.claims in
-        let h = ap (sum_by (λ (s : Span). s.count)) theirs ∙ counts (windows_of (may.passed ++ x ∷ []) (length may.passed)) ∙ ap (sum_by (λ (c : Claim). c.horizon)) (last_claims may.passed x) in
+        let h = ap (sum_by (λ (s : Span). s.count)) theirs ∙ sum_counts (windows_of (may.passed ++ x ∷ []) (length may.passed)) ∙ ap (sum_by (λ (c : Claim). c.horizon)) (last_claims may.passed x) in
         record {
           before = may.passed;
           as_many = as_many;

@@ -32,7 +32,7 @@ use Rattle.flow_core_laws.proofs.Sources.{map_map}
 use Rattle.flow_core.proofs.Showing.{part_of, stretch_of}
 
 -- nothing has an end at the opening
-no_end : (frames : List FramePlan) (f : ℕ) → end_at (map (λ (p : FramePlan). None) frames) f ≡ None
+pub no_end : (frames : List FramePlan) (f : ℕ) → end_at (map (λ (p : FramePlan). None) frames) f ≡ None
 no_end [] f = refl
 no_end (p ∷ ps) zero = refl
 no_end (p ∷ ps) (suc f) = no_end ps f
@@ -121,7 +121,7 @@ gathered-stretch f g from (suc n) vs weaker h =
     let (v, ws, at_x, at_xs, is) = gathered-cons (f from) (map f (range_with_len (from + 1) n)) vs h in
     gathered_there (g from) (map g (range_with_len (from + 1) n)) v ws (weaker from v (omega arith) (omega arith) at_x) (gathered-stretch f g (from + 1) n ws (λ c w l u q. weaker c w (omega arith) (omega arith) q) at_xs) ∙ ap (λ (l : List Elem). Some l) (sym is)
 
-map-stretch : (f g : ℕ → Option Elem) (from n : ℕ) → ((c : ℕ) → from ≤ c → c < from + n → f c ≡ g c) → map f (range_with_len from n) ≡ map g (range_with_len from n)
+pub map-stretch : (f g : ℕ → Option Elem) (from n : ℕ) → ((c : ℕ) → from ≤ c → c < from + n → f c ≡ g c) → map f (range_with_len from n) ≡ map g (range_with_len from n)
 map-stretch f g from zero same = refl
 map-stretch f g from (suc n) same =
     let here : f from ≡ g from = same from (omega arith) (omega arith) in

@@ -11,7 +11,7 @@ use Rattle.flow_core_concurrent.specs.Words.{word_at, opening_words, is_open, is
 use Rattle.flow_core_concurrent.specs.IsGood.{IsGood}
 use Rattle.flow_core_concurrent.proofs.Words.{open_is}
 
-not_started : (w : Word) → is_open w ≡ true → one (is_started w) ≡ 0
+pub not_started : (w : Word) → is_open w ≡ true → one (is_started w) ≡ 0
 not_started w h = ap (λ w. one (is_started w)) (open_is w h)
 
 -- no seat claimed a frame that is Open
@@ -22,7 +22,7 @@ open_is_new known state seat view f good sees opened =
     let z = not_started (word_at state.words f) opened in
     omega (arith, a, b, z)
 
-none_made : (a b : Bool) → b ≡ true → one (a && not b) ≡ 0
+pub none_made : (a b : Bool) → b ≡ true → one (a && not b) ≡ 0
 none_made a false h = absurd (cc)
 none_made true true h = refl
 none_made false true h = refl

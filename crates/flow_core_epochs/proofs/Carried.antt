@@ -99,7 +99,7 @@ unmapped_some : {A B : Type 0} (f : A → B) (o : Option A) → is_some (option_
 unmapped_some f None h = absurd (cc)
 unmapped_some f (Some x) h = (x, refl)
 
-there_value : {A : Type 0} (o : Option A) → is_some o ≡ true → (x : A) × (o ≡ Some x)
+pub there_value : {A : Type 0} (o : Option A) → is_some o ≡ true → (x : A) × (o ≡ Some x)
 there_value None h = absurd (cc)
 there_value (Some x) h = (x, refl)
 
@@ -154,7 +154,7 @@ element_less activations more input body p v other h =
     ap (stream_element (stream_meaning activations input body)) (produced_by activations input p w other (producer_less activations more p.stream p.position w is (outcome_exists activations input body w.activation o ended))) ∙ out
 
 -- the elements at places
-in_elements : (g : Place → Option Elem) (places : List Place) (p : Place) (v : Elem) → Has places p → g p ≡ Some v → Has (elements_at places (map g places)) (record { place = p; value = v })
+pub in_elements : (g : Place → Option Elem) (places : List Place) (p : Place) (v : Elem) → Has places p → g p ≡ Some v → Has (elements_at places (map g places)) (record { place = p; value = v })
 in_elements g [] p v (i, at) e = absurd (cc)
 in_elements g (q ∷ places) p v h e = by_value (g q) refl h (λ t. in_elements g places p v t e)
   where
@@ -167,7 +167,7 @@ in_elements g (q ∷ places) p v h e = by_value (g q) refl h (λ t. in_elements 
         (0, ap Some (ap (λ (r : Place). record { place = r; value = u }) same ∙ ap (λ (n : Elem). record { place = p; value = n }) value))
     by_value (Some u) q_is (suc i, at) rest = has_tail _ _ _ (rest (i, at))
 
-of_elements : (g : Place → Option Elem) (places : List Place) (k : Kept) → Has (elements_at places (map g places)) k → (Has places k.place) × (g k.place ≡ Some k.value)
+pub of_elements : (g : Place → Option Elem) (places : List Place) (k : Kept) → Has (elements_at places (map g places)) k → (Has places k.place) × (g k.place ≡ Some k.value)
 of_elements g [] k (i, at) = absurd (cc)
 of_elements g (q ∷ places) k h = by_value (g q) refl h (of_elements g places k)
   where

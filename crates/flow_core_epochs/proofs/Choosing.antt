@@ -43,7 +43,7 @@ gathered_each f (y ∷ xs) vs e x (suc i, at) =
     let (v, ws, at_y, rest, is) = gathered-cons (f y) (map f xs) vs e in
     gathered_each f xs ws rest x (i, at)
 
-no_end : (o : Option Outcome) → option_map (λ (o : Outcome). o.end) o ≡ None → o ≡ None
+pub no_end : (o : Option Outcome) → option_map (λ (o : Outcome). o.end) o ≡ None → o ≡ None
 no_end None h = refl
 no_end (Some o) h = absurd (cc)
 

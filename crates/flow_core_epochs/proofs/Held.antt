@@ -1,11 +1,11 @@
 -- That what is held between epochs is what all activations so far mean.
 use Rattle.std.proofs.Common.{[], ◌≡◌, ℕ, ◌<◌, ◌≤◌, ℤ, List, ◌∷◌, ◌++◌, Option, Some, None, Bool, true, false, cond, map, length, get_or, refl, sym, ap, ◌∙◌, subst, ◌⊎◌, inl, inr, arith, ◌+◌, take, drop}
-use Rattle.std.specs.Prelude.{Contains, ◌==◌, filter, sum_by}
+use Rattle.std.specs.Prelude.{Contains, ◌==◌}
 use Rattle.std.specs.Option.{option_map, option_map_or}
 use Rattle.std.specs.List.{range_with_len, position, position_or_len}
 use Rattle.std.proofs.lemmas.Bool.{cases_lt, eq-eqb, eqb-true, and_parts, lt-ltb}
 use Rattle.std.proofs.lemmas.List.{same_lists, get_or-map, get_or_past, get_or_default, length-map, take-append-drop, take_more}
-use Rattle.std.proofs.lemmas.List.Sums.{fails_before_first, sum_by-append}
+use Rattle.std.proofs.lemmas.List.Sums.{fails_before_first}
 use Rattle.std.proofs.lemmas.List.FromFn.{get_or-map-range_with_len, length-map-range_with_len}
 use Rattle.std.proofs.lemmas.List.Quantifiers.{position-Some}
 use Rattle.std.proofs.lemmas.Option.{slice_get_within, slice_get-get_or, get_or_from_slice_get}
@@ -29,19 +29,11 @@ use Rattle.flow_core_epochs.proofs.Epochs.{HasEpoch, over_frame, over_other, ove
 use Rattle.flow_core_epochs.proofs.Choosing.{end_in, chosen_by, open_by_ends}
 use Rattle.flow_core_epochs.proofs.Leaving.{sink_leaves}
 use Rattle.flow_core_epochs.proofs.Carried.{nothing_at_first, serves_next, is_outside, carries_over, output_stays, produced_by_nobody}
-use Rattle.std.proofs.lemmas.List.Elements.{filter-append}
 use Rattle.flow_core_laws.specs.declared.claim.Claim.{Claim}
 use Rattle.flow_core_laws.specs.declared.place.Place.{Place}
-use Rattle.flow_core_laws.specs.FirstPosition.{is_write_to, write_cursor}
+use Rattle.flow_core_laws.specs.FirstPosition.{write_cursor}
 use Rattle.flow_core_laws.proofs.Sources.{find_passes}
-use Rattle.flow_core_laws.proofs.Windows.{window_at, written, first_of_write}
-
--- a write claim ends within what is written
-write_cursor-append : (s : ℕ) (xs ys : List Claim) → write_cursor s (xs ++ ys) ≡ write_cursor s xs + write_cursor s ys
-write_cursor-append s xs ys = ap (sum_by (λ (c : Claim). c.horizon)) (filter-append (is_write_to s) xs ys) ∙ sum_by-append (λ (c : Claim). c.horizon) (filter (is_write_to s) xs) (filter (is_write_to s) ys)
-
-write_cursor-one : (s : ℕ) (c : Claim) → is_write_to s c ≡ true → write_cursor s (c ∷ []) ≡ c.horizon
-write_cursor-one s c h = ap (λ (b : Bool). sum_by (λ (d : Claim). d.horizon) (cond b (c ∷ []) [])) h ∙ (let e : 0 + c.horizon ≡ c.horizon = omega arith in e)
+use Rattle.flow_core_laws.proofs.Windows.{window_at, written, first_of_write, write_cursor-one, write_cursor-append}
 
 pub written_within : (activations : List Activation) (s p : ℕ) (w : Window) → producer activations s p ≡ Some w → p < written_count activations s
 written_within activations s p w h =

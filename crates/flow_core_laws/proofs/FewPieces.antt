@@ -11,7 +11,7 @@ use Rattle.flow_core_laws.specs.declared.plan.Plan.{Plan}
 use Rattle.flow_core_laws.specs.IsSound.{Covers, IsSound}
 
 -- two numbers that differ are not equal by the test
-other_test : (a b : ℕ) → a ≢ b → (a == b) ≡ false
+pub other_test : (a b : ℕ) → a ≢ b → (a == b) ≡ false
 other_test a b h = at (a == b) refl
   where
     at : (t : Bool) → (a == b) ≡ t → (a == b) ≡ false

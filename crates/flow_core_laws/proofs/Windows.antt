@@ -131,7 +131,7 @@ window_at activations i w h =
     }
 
 -- how far the write cursor has moved, over joined lists
-write_cursor-append : (s : ℕ) (xs ys : List Claim) → write_cursor s (xs ++ ys) ≡ write_cursor s xs + write_cursor s ys
+pub write_cursor-append : (s : ℕ) (xs ys : List Claim) → write_cursor s (xs ++ ys) ≡ write_cursor s xs + write_cursor s ys
 write_cursor-append s xs ys = ap (sum_by (λ (c : Claim). c.horizon)) (filter-append (is_write_to s) xs ys) ∙ sum_by-append (λ (c : Claim). c.horizon) (filter (is_write_to s) xs) (filter (is_write_to s) ys)
 
 -- what it means that a window writes an element
@@ -155,7 +155,7 @@ first_of_write s earlier c h =
     ap (λ (b : Bool). cond b (write_cursor c.stream earlier) (c.skip + read_cursor c.stream earlier)) parts.0 ∙ ap (λ (t : ℕ). write_cursor t earlier) (eqb-true c.stream s parts.1)
 
 -- a write claim moves the cursor by its horizon
-write_cursor-one : (s : ℕ) (c : Claim) → is_write_to s c ≡ true → write_cursor s (c ∷ []) ≡ c.horizon
+pub write_cursor-one : (s : ℕ) (c : Claim) → is_write_to s c ≡ true → write_cursor s (c ∷ []) ≡ c.horizon
 write_cursor-one s c h = ap (λ (b : Bool). sum_by (λ (d : Claim). d.horizon) (cond b (c ∷ []) [])) h ∙ (let e : 0 + c.horizon ≡ c.horizon = omega arith in e)
 
 -- of two write claims on a stream the later one begins behind the earlier one

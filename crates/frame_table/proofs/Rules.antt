@@ -30,7 +30,7 @@ use Rattle.flow_core_concurrent.specs.Laws.{IsComplete}
 use Rattle.frame_table.proofs.Spells.{lowered_number}
 
 -- the rule after a step that leads to a good state
-kept_by : (known : Known) (words words' : List ℕ) (views views' : List View) (s : CoreState) → ShowsGood known words views → shown known.plan words' views' ≡ s → IsGood known s → IsSpelled known.plan words' → ShowsGood known words' views'
+pub kept_by : (known : Known) (words words' : List ℕ) (views views' : List View) (s : CoreState) → ShowsGood known words views → shown known.plan words' views' ≡ s → IsGood known s → IsSpelled known.plan words' → ShowsGood known words' views'
 kept_by known words words' views views' s kept is good spelled = record { fit = kept.fit; good = subst (IsGood known) (sym is) good; spelled = spelled }
 
 -- a frame that a seat runs is one

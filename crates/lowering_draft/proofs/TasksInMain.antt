@@ -1,8 +1,9 @@
 -- The tasks of a lawful program stand in `main`, none in another one, and what they capture stands in the same order.
-use Rattle.std.proofs.Common.{◌≡◌, ◌∙◌, ℕ, zero, suc, ◌≤◌, ◌==◌, Bool, true, false, not, if◌then◌else◌, List, [], ◌∷◌, ◌++◌, length, Some, slice_get, ap, subst, sym, refl}
+use Rattle.std.proofs.Common.{◌≡◌, ◌∙◌, ℕ, zero, suc, ◌≤◌, ◌==◌, Bool, true, false, if◌then◌else◌, List, [], ◌∷◌, ◌++◌, length, Some, slice_get, ap, subst, sym, refl}
 use Rattle.std.specs.Prelude.{⊤, ltb}
 use Rattle.std.proofs.lemmas.Bool.{ltb-false, or_parts}
 use Rattle.std.proofs.lemmas.List.{length-map}
+use Rattle.lowering_relation.proofs.Stmts.{main_pragma}
 use Rattle.os_ast.specs.Captured.{captured, slots_of}
 use Rattle.os_ast.specs.Leveled.{AreAll, AreStmts, IsItem, IsStmt, cons}
 use Rattle.os_ast.specs.Limits.{captured_limit, items_limit}
@@ -14,7 +15,6 @@ use Rattle.os_ast.specs.Notes.Kinds.{Global, Note, Task}
 use Rattle.os_ast.specs.Notes.Programs.{after_item, after_param, in_body, in_function, item_notes, items_notes, param_list, params_notes, round_body}
 use Rattle.os_ast.specs.Notes.Statements.{after_stmt, stmt_notes, stmts_notes}
 use Rattle.os_ast.specs.ClauseMembers.{ClauseMember, count_items, members}
-use Rattle.os_ast.specs.Rules.{is_main_body}
 use Rattle.os_ast.specs.Trees as tree
 use Rattle.os_ast.specs.Violations.{captures, main_task}
 use Rattle.os_ast.specs.declared.expr.Mark.{Mark}
@@ -30,18 +30,12 @@ use Rattle.lowering_relation.specs.Tasks.{TaskTree, all_tasks_of, program_tasks,
 use Rattle.window_check_laws.proofs.Told.{lawful-first, lawful-rest}
 use Rattle.window_check_laws.specs.Told.{AreLawful}
 
--- a pragma that keeps the rules stands in `main`
-pragma_owner : (o : Owner) → not (is_main_body o) ≡ false → o ≡ owner.OfMain
-pragma_owner owner.OfMain h = refl
-pragma_owner owner.OfFunction h = absurd (cc)
-pragma_owner owner.OfTask h = absurd (cc)
-
 module _ (s : Scope) (m : Mark) (ps : List ClauseMember) (a : tree.StmtTree) (lawful : AreLawful (clauses_notes s m ps a)) where
   own_note : AreLawful (Task s m (count_items ps) (captured s.entries ps a) ∷ [])
   own_note = lawful-rest (members_notes s [] ps) (Task s m (count_items ps) (captured s.entries ps a) ∷ []) lawful
 
   in_main : s.owner ≡ owner.OfMain
-  in_main = pragma_owner s.owner own_note.0.1.1.1.1.1.1.1.0
+  in_main = main_pragma s.owner own_note.0.1.1.1.1.1.1.1.0
 
   few_captured : length (slots_of (captured s.entries ps a)) ≤ 64
   few_captured =

@@ -36,12 +36,7 @@ use Rattle.lowering_relation.proofs.Alignment.{Found, flag_or_of, found, missed,
 use Rattle.lowering_relation.proofs.Steps.{Store, at, pushed, onto, Meets}
 use Rattle.window_check_laws.specs.Order.{IsBelowNext, InOrder}
 use Rattle.window_check_laws.specs.Told.{AreIn, KeepsAll, rules}
-use Rattle.window_check_laws.proofs.Told.{told-use, declared-use}
-
--- the list tells at a place what it has for that place
-in_order_tail : (lo : ℕ) (rs : List Resolved) → IsBelowNext lo rs → InOrder rs
-in_order_tail lo [] h = tt
-in_order_tail lo (r ∷ rs) h = h.1
+use Rattle.window_check_laws.proofs.Told.{told-use, declared-use, in-order-tail}
 
 told_first : (r : Resolved) (rs : List Resolved) (p : ℕ) (w : What) (b : Bool) → r ≡ resolved p w b → told_at (r ∷ rs) p ≡ resolved p w b
 told_first r rs p w b e =
@@ -57,7 +52,7 @@ is_behind lo (r ∷ rs) p w b o (suc k, lt, e) = omega (arith, o.0, is_behind r.
 pub told_is : (rs : List Resolved) (p : ℕ) (w : What) (b : Bool) → InOrder rs → Contains rs (resolved p w b) → told_at rs p ≡ resolved p w b
 told_is [] p w b o (k, lt, e) = absurd (omega (arith, lt))
 told_is (r ∷ rs) p w b o (zero, lt, e) = told_first r rs p w b e
-told_is (r ∷ rs) p w b o (suc k, lt, e) = by_case (r.place == p) refl (told_is rs p w b (in_order_tail r.place rs o) (k, omega (arith, lt), e))
+told_is (r ∷ rs) p w b o (suc k, lt, e) = by_case (r.place == p) refl (told_is rs p w b (in-order-tail r.place rs o) (k, omega (arith, lt), e))
   where
     by_case : (t : Bool) → (r.place == p) ≡ t → told_at rs p ≡ resolved p w b → (if t then r else told_at rs p) ≡ resolved p w b
     by_case false _ next = next

@@ -1,6 +1,8 @@
 -- The code of declarators does what they say.
 use Rattle.std.proofs.Common.{◌≡◌, ℕ, ◌+◌, ◌<◌, ◌≤◌, ◌&&◌, Bool, true, false, not, List, [], ◌∷◌, ◌++◌, length, set, replicate, Option, Some, None, ℤ, pos, refl, sym, ap, ◌∙◌, subst, arith, length-set, ◌^◌}
 use Rattle.std.specs.Prelude.{unwrap_or}
+use Rattle.window_check_laws.proofs.NamePlaces.{or-first}
+use Rattle.window_check_laws.proofs.Known.{not-false}
 use Rattle.cddf_meaning.specs.Flow.{Ran, with_value, goes_on}
 use Rattle.cddf_meaning.specs.Run.{Around, run_scalar, array_size, run_array, run_sized, run_declarator, run_declarators}
 use Rattle.cddf_meaning.specs.BodyState.{BodyState, declared, stored}
@@ -32,7 +34,7 @@ use Rattle.lowering_relation.specs.Declarators.{cleared, named_elsewhere, HasSca
 use Rattle.lowering_relation.specs.Expressions.{Stands}
 use Rattle.lowering_relation.proofs.Alignment.{declared_scalar, declared_array}
 use Rattle.lowering_relation.proofs.Context.{resources, Kept, Context, means, tells, told_is, Agree, agree_first, agree_rest}
-use Rattle.lowering_relation.proofs.Declares.{means_scalar, scalar_behind, means_array, means_in_text, or_first, not_false, size_known, size_small, limit_kept, stored_own, in_behind, stacked_behind, size_runs}
+use Rattle.lowering_relation.proofs.Declares.{means_scalar, scalar_behind, means_array, means_in_text, size_known, size_small, limit_kept, stored_own, in_behind, stacked_behind, size_runs}
 use Rattle.lowering_relation.proofs.Elsewhere.{value_elsewhere}
 use Rattle.lowering_relation.proofs.Exprs.{Ready, expr_runs}
 use Rattle.lowering_relation.proofs.Flows.{Does, does_from, given_does, settled, AlignedIn, went_on, flows_does}
@@ -169,7 +171,7 @@ module _ (c : Context) (callers : List Frame) (leaves : Instr) (total : ℕ) (si
   -- the declarators that only `main` has
   module _ (control : c.owner ≡ owner.OfMain → (d : tree.DeclaratorTree) → DeclaratorDoes d) where
     main_stream : (s : Scope) → s.owner ≡ c.owner → (true && not (is_outermost s.owner s.depth)) ≡ false → c.owner ≡ owner.OfMain
-    main_stream s own h = sym own ∙ by_owner s.owner (not_false (is_outermost s.owner s.depth) h)
+    main_stream s own h = sym own ∙ by_owner s.owner (not-false (is_outermost s.owner s.depth) h)
       where
         by_owner : (o : Owner) → is_outermost o s.depth ≡ true → o ≡ owner.OfMain
         by_owner owner.OfMain e = refl
@@ -191,7 +193,7 @@ module _ (c : Context) (callers : List Frame) (leaves : Instr) (total : ℕ) (si
         HasDeclared c.code (tells c) (tells c n.mark.place).what (record { name = n; size = Some i; stream = false; first = first }) from to →
         ArrayGoal f n i s es st m broke continued from to stack turns within
     array_done n i first f s es st m broke continued from to stack turns within is ready stacked fits len kind says h =
-        let known = size_known (size_value s i.value) (not_false (is_size (size_value s i.value)) (subst (λ x. has_no_size x (size_value s i.value) ≡ false) is kind)) in
+        let known = size_known (size_value s i.value) (not-false (is_size (size_value s i.value)) (subst (λ x. has_no_size x (size_value s i.value) ≡ false) is kind)) in
         let k = known.size in
         let sized : size_of s i.value ≡ Some k = ap limited known.is ∙ limit_kept k known.within in
         let g : f ≡ form_of.Array (Some k) = is ∙ ap form_of.Array sized in
@@ -213,7 +215,7 @@ module _ (c : Context) (callers : List Frame) (leaves : Instr) (total : ℕ) (si
             subst (λ b. Does c.code (at callers from stack m turns) (settled c callers leaves total to broke continued stack within (entry s d ∷ es))
             (run_sized (record { file = c.file; is_control = b; sites = sites }) s.unsigned n.id i st turns)) (sym (ap is_window own ∙ no_window))
             (array_done n i first (form s d) s es st m broke continued from to stack turns within (ap (λ x. sized_form x (size_of s i.value)) (ready.scope.owner ∙ own) ∙ forms (size_of s i.value)) ready stacked fits len
-            (or_first (has_no_size (form s d) (size_value s i.value)) (has_too_many (after_declarator s d) (form s d)) agree.0.0.1.1.1.1.1.0) (told s d agree) h)
+            (or-first (has_no_size (form s d) (size_value s i.value)) (has_too_many (after_declarator s d) (form s d)) agree.0.0.1.1.1.1.1.0) (told s d agree) h)
 
         by_owner : (o : Owner) → c.owner ≡ o →
             Does c.code (at callers from stack m turns) (settled c callers leaves total to broke continued stack within (entry s d ∷ es)) (run_declarator (around_of c sites) s.unsigned d st turns)

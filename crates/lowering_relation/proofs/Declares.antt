@@ -1,5 +1,5 @@
 -- The code of declarations does what they say.
-use Rattle.std.proofs.Common.{◌≡◌, ℕ, ◌+◌, ◌==◌, ◌&&◌, ◌||◌, Bool, true, false, not, if◌then◌else◌, List, [], ◌∷◌, ◌++◌, length, leb, Option, Some, None, Ok, ℤ, pos, negsuc, refl, sym, ap, ◌∙◌, subst, inl, inr, arith, eq-eqb, ◌<◌, ◌≤◌, ◌^◌, leb-true}
+use Rattle.std.proofs.Common.{◌≡◌, ℕ, ◌+◌, ◌==◌, ◌&&◌, Bool, true, false, if◌then◌else◌, List, [], ◌∷◌, ◌++◌, length, leb, Option, Some, None, Ok, ℤ, pos, negsuc, refl, sym, ap, ◌∙◌, subst, inl, inr, arith, eq-eqb, ◌<◌, ◌≤◌, ◌^◌, leb-true}
 use Rattle.std.proofs.lemmas.Int.{to_z_pos}
 use Rattle.std.specs.Int.{w32, cast_signed}
 use Rattle.std.specs.Prelude.{◌⊎◌, unwrap_or}
@@ -77,14 +77,6 @@ no_constant has slots (variable_of.Window y) x w e h = let z : what.Constant x �
 no_constant has slots (variable_of.Stream y n) x w e h = let z : what.Constant x ≡ what.Stream y n = sym e ∙ h.0 in absurd (cc)
 no_constant has slots (variable_of.Item k) x w e (_, inl f) = let z : what.Constant x ≡ what.Element k = sym e ∙ f in absurd (cc)
 no_constant has slots (variable_of.Item k) x w e (_, inr f) = let z : what.Constant x ≡ what.View k = sym e ∙ f in absurd (cc)
-
-pub or_first : (a b : Bool) → (a || b) ≡ false → a ≡ false
-or_first true b h = absurd (cc)
-or_first false b h = refl
-
-pub not_false : (a : Bool) → not a ≡ false → a ≡ true
-not_false true h = refl
-not_false false h = absurd (cc)
 
 -- a size that is one
 pub record IsSize (told : Option ℤ) : Type 0 where

@@ -2,6 +2,8 @@
 -- place as many as the text before it.
 use Rattle.std.proofs.Common.{◌≡◌, ℕ, ◌+◌, ◌-◌, ◌≤◌, Bool, true, false, List, [], ◌∷◌, ◌++◌, length, Option, Some, None, ℤ, pos, refl, sym, ap, ◌∙◌, subst, arith}
 use Rattle.std.specs.Prelude.{unwrap_or}
+use Rattle.window_check_laws.proofs.NamePlaces.{or-first}
+use Rattle.window_check_laws.proofs.Known.{not-false}
 use Rattle.cddf_meaning.specs.File.{File}
 use Rattle.cddf_meaning.specs.Flow.{Ran, Went, Ended, Runs, with_value, goes_on, flows}
 use Rattle.cddf_meaning.specs.Moves.{CallsFall}
@@ -40,7 +42,7 @@ use Rattle.lowering_relation.specs.Tasks.{TaskTree}
 use Rattle.lowering_relation.proofs.Alignment.{stacked_more}
 use Rattle.lowering_relation.proofs.Context.{InMain, resources, Kept, Context, means, tells, Agree, in_typed}
 use Rattle.lowering_relation.proofs.Declarators.{DeclaratorRuns, told, scalar_done}
-use Rattle.lowering_relation.proofs.Declares.{or_first, not_false, size_known, size_small, limit_kept, in_behind, stacked_behind, size_runs}
+use Rattle.lowering_relation.proofs.Declares.{size_known, size_small, limit_kept, in_behind, stacked_behind, size_runs}
 use Rattle.lowering_relation.proofs.Exprs.{Ready}
 use Rattle.lowering_relation.proofs.Files.{agrees}
 use Rattle.lowering_relation.proofs.Flows.{AlignedIn, exactly}
@@ -194,8 +196,8 @@ module _ (code : Parts) (file : File) (falls : CallsFall file) (names : List Res
       let d : tree.DeclaratorTree = record { name = n; size = Some i; stream = true; first = first } in
       let c = context o.streams o.later in
       let agree = no_rule o.streams o.later (declarator_notes s d) lawful tells in
-      let kind = or_first (has_no_size (form s d) (size_value s i.value)) (has_too_many (after_declarator s d) (form s d)) lawful.0.1.1.1.1.1.0 in
-      let known = size_known (size_value s i.value) (not_false (is_size (size_value s i.value)) kind) in
+      let kind = or-first (has_no_size (form s d) (size_value s i.value)) (has_too_many (after_declarator s d) (form s d)) lawful.0.1.1.1.1.1.0 in
+      let known = size_known (size_value s i.value) (not-false (is_size (size_value s i.value)) kind) in
       let k = known.size in
       let sized : size_of s i.value ≡ Some k = ap limited known.is ∙ limit_kept k known.within in
       let count : unwrap_or (size_of s i.value) 0 ≡ k = ap (λ x. unwrap_or x 0) sized in

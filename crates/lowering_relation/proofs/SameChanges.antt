@@ -1,6 +1,8 @@
 -- Changes and declarators do the same where more is in scope.
 use Rattle.std.proofs.Common.{◌≡◌, ℕ, ◌==◌, ◌||◌, ◌&&◌, Bool, true, false, not, if◌then◌else◌, List, [], ◌∷◌, ◌++◌, length, get_or, set, replicate, Option, Some, None, Ok, Err, ℤ, pos, refl, sym, ap, ◌∙◌, subst, inl, eq-eqb}
 use Rattle.std.proofs.lemmas.Bool.{or_right}
+use Rattle.window_check_laws.proofs.NamePlaces.{or-first}
+use Rattle.window_check_laws.proofs.Known.{not-false}
 use Rattle.cddf_meaning.specs.Answers.{Answer, Left, left, and_then, with_turns}
 use Rattle.cddf_meaning.specs.File.{File, or_in_file, type_in}
 use Rattle.cddf_meaning.specs.Flow.{Ran, with_value, goes_on}
@@ -33,7 +35,7 @@ use Rattle.os_ast.specs.declared.names.Role.TheVariants as role
 use Rattle.lowering_relation.specs.FoundNames.{AreElse, with_more}
 use Rattle.lowering_relation.proofs.Context.{Context, Agree, agree_first, agree_rest, In, in_typed}
 use Rattle.lowering_relation.proofs.Declarators.{around_of}
-use Rattle.lowering_relation.proofs.Declares.{or_first, not_false, size_known, in_behind}
+use Rattle.lowering_relation.proofs.Declares.{size_known, in_behind}
 use Rattle.lowering_relation.proofs.Elsewhere.{same_then, scalar_same, elements_same}
 use Rattle.lowering_relation.proofs.SameFlows.{SameRan, went, given_same, flows_same}
 use Rattle.lowering_relation.proofs.SameNames.{ids, Seen, AllSeen, same_found, Matches, seen_expr, seen_size, seen_target, value_more, type_more, target_type_more}
@@ -194,9 +196,9 @@ module _ (c : Context) (more : List Binding) (apart : AreElse c.file more) (site
     stream_same n None first w st turns within same agree = went (with_streams n.id w 1 st) turns (ap (λ xs. n.id ∷ xs) same)
     stream_same n (Some i) first w st turns within same agree =
         let d : tree.DeclaratorTree = record { name = n; size = Some i; stream = true; first = first } in
-        let kind = or_first (has_no_size (form s d) (size_value s i.value)) (has_too_many (after_declarator s d) (form s d)) agree.0.0.1.1.1.1.1.0 in
+        let kind = or-first (has_no_size (form s d) (size_value s i.value)) (has_too_many (after_declarator s d) (form s d)) agree.0.0.1.1.1.1.1.0 in
         given_same c more st (value c.file i.value st turns) (value c.file i.value (with_more more st) turns) (λ x. goes_on (with_streams n.id w (array_size x.value) st) x.turns)
-        (λ x. goes_on (with_streams n.id w (array_size x.value) (with_more more st)) x.turns) (size_more i st turns same (not_false (is_size (size_value s i.value)) kind))
+        (λ x. goes_on (with_streams n.id w (array_size x.value) (with_more more st)) x.turns) (size_more i st turns same (not-false (is_size (size_value s i.value)) kind))
         (λ x q. went (with_streams n.id w (array_size x.value) st) x.turns (ap (λ xs. n.id ∷ xs) same))
 
     window_same : (w : Bool) (n : NameToken) (i : tree.IndexTree) (st : BodyState) (turns : ℕ) (within : List Entry → Type 0) (after : List Entry) → AllSeen c.file st.bound (expr_names i.value) → ((v : ℕ) → Matches c (bind n.id w (Window v) st.bound) after) →
@@ -233,8 +235,8 @@ module _ (c : Context) (more : List Binding) (apart : AreElse c.file more) (site
         array_by : (o : Owner) → c.owner ≡ o → ((size : Option ℕ) → sized_form o size ≡ form_of.Array size) → Goal false
         array_by o own forms =
             let f : form s d ≡ form_of.Array (size_of s i.value) = ap (λ x. sized_form x (size_of s i.value)) (is.owner ∙ own) ∙ forms (size_of s i.value) in
-            let kind = or_first (has_no_size (form s d) (size_value s i.value)) (has_too_many (after_declarator s d) (form s d)) agree.0.0.1.1.1.1.1.0 in
-            array_same w n i st turns within (entry s d ∷ es) same (not_false (is_size (size_value s i.value)) (subst (λ x. has_no_size x (size_value s i.value) ≡ false) f kind)) (λ v. ap (λ xs. n.id ∷ xs) same)
+            let kind = or-first (has_no_size (form s d) (size_value s i.value)) (has_too_many (after_declarator s d) (form s d)) agree.0.0.1.1.1.1.1.0 in
+            array_same w n i st turns within (entry s d ∷ es) same (not-false (is_size (size_value s i.value)) (subst (λ x. has_no_size x (size_value s i.value) ≡ false) f kind)) (λ v. ap (λ xs. n.id ∷ xs) same)
 
         by_owner : (o : Owner) → c.owner ≡ o → Goal (is_window c.owner)
         by_owner owner.OfMain own = subst Goal (sym (ap is_window own)) (window_by own)

@@ -1,6 +1,8 @@
 -- The sizes of arrays, by the names that are told.
 use Rattle.std.proofs.Common.{◌≡◌, ℕ, ◌&&◌, Bool, true, false, not, if◌then◌else◌, List, [], ◌∷◌, ◌++◌, Option, Some, None, ℤ, pos, refl, sym, ap, ◌∙◌, subst}
 use Rattle.std.specs.Prelude.{unwrap_or}
+use Rattle.window_check_laws.proofs.NamePlaces.{or-first}
+use Rattle.window_check_laws.proofs.Known.{not-false}
 use Rattle.os_ast.specs.Captured.{captured}
 use Rattle.os_ast.specs.Limits.{is_size}
 use Rattle.os_ast.specs.Meanings.{meaning_in}
@@ -30,7 +32,7 @@ use Rattle.os_ast.specs.declared.names.What.TheVariants as what
 use Rattle.lowering_relation.specs.Names.{told_at}
 use Rattle.lowering_relation.specs.Programs.{constant_size, size_by}
 use Rattle.lowering_relation.proofs.Context.{told_is}
-use Rattle.lowering_relation.proofs.Declares.{or_first, not_false, size_known}
+use Rattle.lowering_relation.proofs.Declares.{size_known}
 use Rattle.window_check_laws.specs.Order.{InOrder}
 use Rattle.window_check_laws.specs.Sums.{HasSize, HasSizes, IsArraySize}
 use Rattle.window_check_laws.specs.Told.{AreIn, Tells, AreLawful}
@@ -210,17 +212,17 @@ module _ (rs : List Resolved) (ordered : InOrder rs) where
   -- a declarator
   declarator_size : (s : Scope) (d : tree.DeclaratorTree) → AreLawful (declarator_notes s d) → Tells rs (declarator_notes s d) → HasSize size s d.size
   declarator_size s d lawful tells = by_size d.size d.stream
-      (or_first (has_no_size (form s d) (size_told s d.size)) (has_too_many (after_declarator s d) (form s d)) lawful.0.1.1.1.1.1.0)
+      (or-first (has_no_size (form s d) (size_told s d.size)) (has_too_many (after_declarator s d) (form s d)) lawful.0.1.1.1.1.1.0)
       (lawful-first (sized_notes s d.stream d.size) (value_notes (after_declarator s d) d.first) lawful.1) (tells-first rs (sized_notes s d.stream d.size) (value_notes (after_declarator s d) d.first) tells.1)
     where
       local : (o : Owner) (stream : Bool) (i : tree.IndexTree) → has_no_size (form_with (record s { owner = o }) stream (Some i)) (size_told s (Some i)) ≡ false → (is_window o && not stream) ≡ false →
           IsKnown s i.value
-      local owner.OfMain true i h w = let k = size_known (size_value s i.value) (not_false (is_size (size_value s i.value)) h) in (k.size, k.is)
+      local owner.OfMain true i h w = let k = size_known (size_value s i.value) (not-false (is_size (size_value s i.value)) h) in (k.size, k.is)
       local owner.OfMain false i h w = absurd (cc)
-      local owner.OfFunction true i h w = let k = size_known (size_value s i.value) (not_false (is_size (size_value s i.value)) h) in (k.size, k.is)
-      local owner.OfFunction false i h w = let k = size_known (size_value s i.value) (not_false (is_size (size_value s i.value)) h) in (k.size, k.is)
-      local owner.OfTask true i h w = let k = size_known (size_value s i.value) (not_false (is_size (size_value s i.value)) h) in (k.size, k.is)
-      local owner.OfTask false i h w = let k = size_known (size_value s i.value) (not_false (is_size (size_value s i.value)) h) in (k.size, k.is)
+      local owner.OfFunction true i h w = let k = size_known (size_value s i.value) (not-false (is_size (size_value s i.value)) h) in (k.size, k.is)
+      local owner.OfFunction false i h w = let k = size_known (size_value s i.value) (not-false (is_size (size_value s i.value)) h) in (k.size, k.is)
+      local owner.OfTask true i h w = let k = size_known (size_value s i.value) (not-false (is_size (size_value s i.value)) h) in (k.size, k.is)
+      local owner.OfTask false i h w = let k = size_known (size_value s i.value) (not-false (is_size (size_value s i.value)) h) in (k.size, k.is)
 
       by_form : (stream : Bool) (i : tree.IndexTree) (t : Bool) → (is_window s.owner && not stream) ≡ t → has_no_size (form_with s stream (Some i)) (size_told s (Some i)) ≡ false →
           AreLawful (if t then expr_notes s i.value else size_notes s i.value) → Tells rs (if t then expr_notes s i.value else size_notes s i.value) → unwrap_or (size_of s i.value) 0 ≡ size i.value

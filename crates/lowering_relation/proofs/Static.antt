@@ -1,5 +1,6 @@
 -- What a statement does to the scope of the text.
 use Rattle.std.proofs.Common.{◌≡◌, ◌≤◌, ℕ, suc, List, [], ◌∷◌, ◌++◌, refl, sym, ap, ◌∙◌, arith, append_assoc}
+use Rattle.window_check_laws.proofs.Holds.{taken_entries}
 use Rattle.os_ast.specs.Captured.{captured, slots_of}
 use Rattle.os_ast.specs.Leveled.{IsStmt}
 use Rattle.os_ast.specs.Names.{Scope, declare, flagged, typed, enter, in_loop}
@@ -40,13 +41,6 @@ taken_onward s (form_of.Array size) = record { owner = refl; captured = refl; de
 taken_onward s form_of.Window = record { owner = refl; captured = refl; depth = refl; slots = omega arith; streams = omega arith }
 taken_onward s form_of.Stream = record { owner = refl; captured = refl; depth = refl; slots = omega arith; streams = omega arith }
 taken_onward s (form_of.Streams size) = record { owner = refl; captured = refl; depth = refl; slots = omega arith; streams = omega arith }
-
-taken_entries : (s : Scope) (f : Form) → (taken s f).entries ≡ s.entries
-taken_entries s form_of.Scalar = refl
-taken_entries s (form_of.Array size) = refl
-taken_entries s form_of.Window = refl
-taken_entries s form_of.Stream = refl
-taken_entries s (form_of.Streams size) = refl
 
 -- a declarator's entry
 abbrev pub entry : Scope → tree.DeclaratorTree → Entry

@@ -1,8 +1,8 @@
 -- The tasks of a program stand at rising places, so that a place tells which task it is.
-use Rattle.std.proofs.Common.{◌≡◌, ℕ, zero, suc, ◌+◌, ◌<◌, ◌≤◌, ◌==◌, Bool, true, false, if◌then◌else◌, List, [], ◌∷◌, ◌++◌, length, map, get_or, position, Option, Some, None, slice_get, cond, nat_lt, unwrap_or, refl, sym, ap, ◌∙◌, subst, arith, eq-eqb, ne_eqb, lt-ltb}
+use Rattle.std.proofs.Common.{◌≡◌, ℕ, zero, suc, ◌+◌, ◌<◌, ◌≤◌, ◌==◌, Bool, true, false, if◌then◌else◌, List, [], ◌∷◌, ◌++◌, length, map, get_or, position, Option, Some, None, slice_get, cond, nat_lt, unwrap_or, sym, ap, ◌∙◌, subst, arith, eq-eqb, ne_eqb, lt-ltb}
 use Rattle.std.proofs.lemmas.Option.{slice_get_within, unwrap_or-slice_get}
 use Rattle.std.proofs.lemmas.List.Sums.{position_or_len_is}
-use Rattle.os_ast.specs.Marks.{HasMark, HasPlaces}
+use Rattle.os_ast.specs.Marks.{HasPlaces}
 use Rattle.os_ast.specs.Names.{main_id}
 use Rattle.os_ast.specs.Spelling as spelling
 use Rattle.os_ast.specs.Spelling.{Symbol, bare, marked, Printer, ◌⨾◌, symbols}
@@ -17,7 +17,7 @@ use Rattle.os_ast.specs.declared.ty.Ty.TheVariants as ty_of
 use Rattle.os_lexer.specs.declared.token.Kind.{Kind}
 use Rattle.os_lexer.specs.declared.token.Punct.TheVariants as puncts
 use Rattle.lowering_relation.specs.Tasks.{TaskTree, tasks_of, all_tasks_of, program_tasks}
-use Rattle.window_check_laws.proofs.Ordered.{HasFrom}
+use Rattle.window_check_laws.proofs.Ordered.{HasFrom, has-from}
 
 -- places rise, from one on and below another
 abbrev pub Rises : {A : Type 0} → (A → ℕ) → ℕ → List A → ℕ → Type 0
@@ -171,13 +171,8 @@ walks_items (tree.Function f ∷ is) lo h = by_case (f.name.id == main_id) (λ f
         let r = (silent (prints_item (tree.Function f))).walk lo (spelling.each spelling.item is []) h in
         next r.to r.after
 
-has_from : (ps : List Symbol) (from : ℕ) → ((i : ℕ) (m : Mark) → HasMark ps i m → m.place ≡ from + i) → HasFrom from ps
-has_from [] from f = tt
-has_from (bare k ∷ ps) from f = has_from ps (suc from) (λ i m is. omega (arith, f (suc i) m is))
-has_from (marked k m ∷ ps) from f = (omega (arith, f 0 m (k, refl)), has_from ps (suc from) (λ i q is. omega (arith, f (suc i) q is)))
-
 pub tasks_rise : (p : tree.ProgramTree) → HasPlaces p → Rising (program_tasks p)
-tasks_rise p h = walks_items p 0 (has_from (symbols p) 0 (λ i m is. omega (arith, h i m is)))
+tasks_rise p h = walks_items p 0 (has-from (symbols p) 0 (λ i m is. omega (arith, h i m is)))
 
 pub got : {A : Type 0} (xs : List A) (k : ℕ) (x d : A) → slice_get xs k ≡ Some x → get_or xs k d ≡ x
 got xs k x d is = sym (unwrap_or-slice_get xs k d) ∙ ap (λ o. unwrap_or o d) is

@@ -10,7 +10,7 @@ use Rattle.os_ast.specs.Names.{Scope, lookup, entity_of, main_id, flag_of}
 use Rattle.os_ast.specs.Notes.Declarators.{declared_entity, form_with, form_entity, scalar_entity, sized_form, taken, after_declarator, size_of}
 use Rattle.os_ast.specs.Notes.Kinds.{Note, Used, Sized, Declared, Parameter, Global, Left, Returned, Pragma, Task, Listed}
 use Rattle.os_ast.specs.ClauseMembers.{is_in}
-use Rattle.os_ast.specs.Rules.{UseRule, violates, if_declared, is_wrong_kind, has_other_count, is_changed, is_main_body, is_misplaced_window, is_a_window, is_fixed}
+use Rattle.os_ast.specs.Rules.{is_wrong_kind, has_other_count, is_changed, is_main_body, is_misplaced_window, is_a_window, is_fixed}
 use Rattle.os_ast.specs.Trees as tree
 use Rattle.os_ast.specs.Violations.{resolutions_of}
 use Rattle.os_ast.specs.declared.expr.Name.{Name}
@@ -31,7 +31,7 @@ use Rattle.os_code.specs.Effects.{operands_of}
 use Rattle.os_code.specs.Parts.{Main}
 use Rattle.os_code.specs.declared.instr.Instr.TheVariants as instr
 use Rattle.lowering_relation.specs.Names.{told_at, first_of}
-use Rattle.lowering_relation.proofs.Context.{told_is}
+use Rattle.lowering_relation.proofs.Context.{told_is, kept_rule}
 use Rattle.lowering_relation.proofs.Exprs.{same_count}
 use Rattle.lowering_relation.proofs.Homes.{Home, tells, HasItem, HasOutput, IsCallee, IsCalled, Fits, IsOutput, FitsUse, FitsNote, AllFit}
 use Rattle.lowering_relation.proofs.Names.{means_function}
@@ -145,11 +145,6 @@ AllScoped t (n ∷ ns) = Scoped t n × AllScoped t ns
 pub scoped_both : (t : Text) (xs ys : List Note) → AllScoped t xs → AllScoped t ys → AllScoped t (xs ++ ys)
 scoped_both t [] ys a b = b
 scoped_both t (x ∷ xs) ys a b = (a.0, scoped_both t xs ys a.1 b)
-
--- a rule that a used name keeps
-kept_rule : (rule : UseRule) (s : Scope) (n : Name) (u : Use) (d : Entity) → entity_of (lookup s.entries n.id) ≡ Some d → violates rule (Used s n u) ≡ false →
-    rule n.id u d ≡ false
-kept_rule rule s n u d is h = sym (ap (if_declared (rule n.id u)) is) ∙ h
 
 -- the place of a captured scalar
 place_within : (xs : List ℕ) (slot : ℕ) → is_in slot xs ≡ true → place_in xs slot + 1 ≤ length xs

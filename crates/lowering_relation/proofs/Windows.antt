@@ -1,6 +1,7 @@
 -- The code of a window's declarator keeps its size in its slot.
 use Rattle.std.proofs.Common.{◌≡◌, ℕ, ◌+◌, ◌<◌, ◌≤◌, ◌&&◌, ◌==◌, Bool, true, false, not, if◌then◌else◌, leb, List, [], ◌∷◌, ◌++◌, length, set, Option, Some, None, Ok, ℤ, pos, negsuc, refl, sym, ap, ◌∙◌, subst, arith, length-set, get_or-set_same, get_or-set_other, eqb-true, leb-true}
 use Rattle.std.proofs.lemmas.Bool.{and_parts}
+use Rattle.window_check_laws.proofs.Known.{not-false}
 use Rattle.c_int.specs.declared.trap.Trap.TheVariants as trap_of
 use Rattle.cddf_meaning.specs.Answers.{traps}
 use Rattle.cddf_meaning.specs.File.{File}
@@ -40,7 +41,6 @@ use Rattle.lowering_relation.specs.Declarators.{HasDeclared}
 use Rattle.lowering_relation.proofs.Alignment.{same_below}
 use Rattle.lowering_relation.proofs.Context.{InMain, resources, Context, means, tells, Agree, agree_first}
 use Rattle.lowering_relation.proofs.Declarators.{DeclaratorDoes, DeclaratorRuns, at_depth, told, scalar_done}
-use Rattle.lowering_relation.proofs.Declares.{not_false}
 use Rattle.lowering_relation.proofs.Exprs.{expr_runs}
 use Rattle.lowering_relation.proofs.Flows.{Does, given_does, settled, went_on}
 use Rattle.lowering_relation.proofs.Functions.{FileFits}
@@ -130,7 +130,7 @@ module _ (code : Parts) (file : File) (falls : CallsFall file) (names : List Res
 
   stream_done : (n : Name) (size : Option tree.IndexTree) (first : Option tree.ExprTree) → DeclaratorDoes c callers leaves total sites (record { name = n; size = size; stream = true; first = first })
   stream_done n size first s es st m broke continued from to stack turns within ready deep stacked fits2 len agree h =
-      let outermost : is_outermost s.owner s.depth ≡ true = not_false (is_outermost s.owner s.depth) agree.0.0.1.1.1.1.1.1.1.0 in
+      let outermost : is_outermost s.owner s.depth ≡ true = not-false (is_outermost s.owner s.depth) agree.0.0.1.1.1.1.1.1.1.0 in
       let at_two : (s.depth == 2) ≡ true = subst (λ o. is_outermost o s.depth ≡ true) ready.scope.owner outermost in
       let two : s.depth ≡ 2 = eqb-true s.depth 2 at_two in
       absurd (omega (arith, deep, two))

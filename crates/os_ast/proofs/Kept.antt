@@ -9,7 +9,7 @@ use Rattle.os_ast.specs.declared.names.Entry.{Entry}
 use Rattle.os_ast.specs.declared.names.Form.{Form}
 use Rattle.os_ast.specs.declared.names.Form.TheVariants as form_of
 
-keeps-then : {a b c : List Entry} → Keeps a b → Keeps b c → Keeps a c
+pub keeps-then : {a b c : List Entry} → Keeps a b → Keeps b c → Keeps a c
 keeps-then h same = h
 keeps-then h (more k) = more (keeps-then h k)
 

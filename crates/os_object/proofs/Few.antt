@@ -7,33 +7,15 @@ use Rattle.std.proofs.lemmas.List.Sums.{sum_by-cons}
 use Rattle.std.proofs.lemmas.Map.Keys.{IsDistinct-from_apart}
 use Rattle.std.proofs.lemmas.Map.Steps.{length-le_from_distinct_below}
 use Rattle.std.proofs.lemmas.List.{length-map}
+use Rattle.os_object_validity.proofs.Exploring.{few_units}
 use Rattle.os_code.proofs.Lists.{there}
-use Rattle.os_code.proofs.Regions.{next_start-above}
-use Rattle.os_code.proofs.Spans.{span, all_spans}
 use Rattle.os_code.specs.declared.parts.Parts.{Parts}
 use Rattle.os_code.specs.declared.site.Site.{Site}
 use Rattle.os_code.specs.declared.site.SiteItem.{SiteItem}
 use Rattle.os_code.specs.declared.unit.CodeUnit.{CodeUnit}
-use Rattle.os_code.specs.IsValid.{HasRegions, IsValid}
+use Rattle.os_code.specs.IsValid.{IsValid}
 use Rattle.os_code.specs.Parts.{site_at}
 use Rattle.os_object.specs.Fronts.{IsSmallSite}
-
--- each member adds something
-all_some : (need : CodeUnit → ℕ) (units : List CodeUnit) → ((number : ℕ) (unit : CodeUnit) → slice_get units number ≡ Some unit → 1 ≤ need unit)
-    → length units ≤ sum_by need units
-all_some need [] some = omega arith
-all_some need (unit ∷ units) some =
-    let rest = all_some need units (λ n u e. some (suc n) u e) in
-    let here = some 0 unit refl in
-    let both = sum_by-cons need unit units in
-    omega (arith, rest, here, both)
-
-pub few_units : (code : Parts) → HasRegions code → length code.units < 2 ^ 32
-few_units code regions =
-    let all = all_spans code regions in
-    let some = all_some (span code) code.units (λ n unit is. let above = next_start-above (length code.instrs) unit.start code.units (regions.starts_inside n unit is) in omega (arith, above)) in
-    let short = regions.short in
-    omega (arith, all, some, short)
 
 abbrev unit_of : Site → ℕ
 unit_of site = site.unit

@@ -265,7 +265,7 @@ has_instr code heights w number unit instrs is e entry same =
     }
 
 -- units are fewer than places
-all_some : (need : CodeUnit → ℕ) (units : List CodeUnit) → ((number : ℕ) (unit : CodeUnit) → slice_get units number ≡ Some unit → 1 ≤ need unit)
+pub all_some : (need : CodeUnit → ℕ) (units : List CodeUnit) → ((number : ℕ) (unit : CodeUnit) → slice_get units number ≡ Some unit → 1 ≤ need unit)
     → length units ≤ sum_by need units
 all_some need [] some = omega arith
 all_some need (unit ∷ units) some =

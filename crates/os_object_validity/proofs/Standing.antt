@@ -4,6 +4,7 @@ use Rattle.std.specs.Prelude.{All, ◌==◌, nat_le, nat_lt, slice_get}
 use Rattle.std.specs.List.{list_all}
 use Rattle.std.proofs.lemmas.Bool.{and_parts, and_from, ltb-true, leb-true, le-leb, lt-ltb, eqb-true, eq-eqb, ne_eqb, both_ways, not-true, not_from_false, cases_lt}
 use Rattle.std.proofs.lemmas.Option.{slice_get_within, slice_get-get_or}
+use Rattle.os_code.proofs.Checked.{turn_from, all_from, from_list_all, at_there, function_from, implied}
 use Rattle.os_code.specs.declared.instr.Instr.{Instr}
 use Rattle.os_code.specs.declared.instr.Instr.TheVariants.{Push, ItemStore, Call, Spawn, Tick}
 use Rattle.os_code.specs.declared.parts.Parts.{Parts}
@@ -18,7 +19,7 @@ use Rattle.os_code.proofs.Lists.{there}
 use Rattle.os_code.proofs.Regions.{is_within-from}
 use Rattle.os_code.proofs.Spans.{found}
 use Rattle.os_object_validity.specs.Tables.{TasksDistinct, UnitStands, AllStand, target_stands, turn_stands, jump_stands, call_stands, names_stand, item_there, is_output, stores_into_output, items_fit_in, items_fit, kind_stands, place_stands, item_stands, args_are, args_of_are, site_stands, sites_stand_by, sites_stand}
-use Rattle.os_object_validity.proofs.Tests.{implied, implies-from, at_there, if_there-from, from_list_all, list_all-from, all_from, list_all-from_All, turn_from, turn-is, function_from, called-is, spawned-is, ticked-is, stored-is}
+use Rattle.os_object_validity.proofs.Tests.{implies-from, if_there-from, list_all-from, list_all-from_All, turn-is, called-is, spawned-is, ticked-is, stored-is}
 
 -- the parts of what an instruction passes
 record PlaceParts (code : Parts) (number : ℕ) (unit : CodeUnit) (place : ℕ) (instr : Instr) : Type 0 where

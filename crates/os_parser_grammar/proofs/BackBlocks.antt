@@ -23,9 +23,9 @@ use Rattle.os_parser_grammar.specs.Kinds.{same}
 use Rattle.os_parser_grammar.specs.Reading.{Reader, begins}
 use Rattle.os_parser_grammar.specs.Statements.{Inner, inner, inner_item, type_words, begins_type, declared, before, block_item, stmts, block, stmt_on}
 use Rattle.os_parser_grammar.specs.declared.stmt_start.StmtStart.TheVariants as starts
-use Rattle.os_parser_grammar.proofs.BackExprs.{Back, Plain, plain-back, Noted, noted-back, depth-some, name_of, back-target, back-args, back-expr}
+use Rattle.os_parser_grammar.proofs.BackExprs.{Back, Plain, plain-back, Noted, noted-back, depth-some, name_of, back-target, back-args, back-expr, closing}
 use Rattle.os_parser_grammar.proofs.BackParts.{begins-not, back-whole, back-declared, back-type, type-begun, type-begins, listed-names}
-use Rattle.os_parser_grammar.proofs.BackChanges.{step-starts, Targeted, back-set, back-after, back-before, ended-back, ending, closed, back-start, back-test, back-step}
+use Rattle.os_parser_grammar.proofs.BackChanges.{step-starts, Targeted, back-set, back-after, back-before, ended-back, ending, back-start, back-test, back-step}
 use Rattle.os_parser_grammar.proofs.BackClauses.{back-clauses}
 use Rattle.os_parser_grammar.proofs.BackStmts.{stmt-some, print-less, lift, not-other, empty-back, block-back, named-change, stepped-back, call-back, back-condition, if-back, if_else-back, while-back, for-back, break-back, continue-back, return-back, task-back, tick-back, taskwait-back}
 
@@ -195,7 +195,7 @@ mutual
       let q = plain-back w.fits in
       let b = back-whole (suc d) g _ q.rest (back-target (suc d) it (omega (arith, h)) q.fits (record { least = omega arith })) in
       let r = noted-back b.fits in
-      let y = back-expr d is (omega (arith, h)) r.fits (closed _) in
+      let y = back-expr d is (omega (arith, h)) r.fits (closing _) in
       let u = plain-back y.fits in
       lift {st = starts.Pragma} (inner (suc d)) _ _ _ (rw t.head refl) (tick-back d m g a x _ _ _ _ _ _ _ _ _ t o w q b r y u (plain-back u.fits))
   back-stmt d (leveled.IsStmt.taskwait {m}) h e f =

@@ -1,17 +1,16 @@
 -- What is spelled as a change or a part of a for's head is read back.
 use Rattle.std.proofs.Common.{◌≡◌, ℕ, zero, suc, ◌≤◌, true, false, List, ◌∷◌, Option, Some, None, refl, ap, length, arith}
 use Rattle.os_ast.specs.Beginnings as can
-use Rattle.os_ast.specs.Beginnings.{BeginsWith}
 use Rattle.os_ast.specs.Depth.{target_depth, value_depth, change_depth, start_depth, step_depth}
 use Rattle.os_ast.specs.Leveled as leveled
-use Rattle.os_ast.specs.Leveled.{IsExpr, IsTarget, AreAll, AreListed, IsOptional, IsIndex, IsDeclarator, IsHeadDeclarator, IsChange, IsStart, IsClauseItem, IsClauseKind, IsClause, AreClauses}
+use Rattle.os_ast.specs.Leveled.{IsExpr, IsTarget, IsOptional, IsChange, IsStart}
 use Rattle.os_ast.specs.Means.{Placed, placed, Fit}
 use Rattle.os_ast.specs.Operators as operators
 use Rattle.os_ast.specs.Operators.{IsAssign, assign_mark, step_mark}
 use Rattle.os_ast.specs.Spelling as spelling
-use Rattle.os_ast.specs.Spelling.{Symbol, Printer, bare, marked, ◌⨾◌}
+use Rattle.os_ast.specs.Spelling.{Symbol, bare}
 use Rattle.os_ast.specs.Trees as tree
-use Rattle.os_ast.specs.Trees.{ExprTree, TargetTree, IndexTree, DeclaratorTree, ChangeTree, StartTree, JoinTree, ClauseItemTree, ClauseKindTree, ClauseTree}
+use Rattle.os_ast.specs.Trees.{ExprTree, TargetTree, DeclaratorTree, ChangeTree, StartTree}
 use Rattle.os_ast.specs.declared.expr.Mark.{Mark}
 use Rattle.os_ast.specs.declared.stmt.Assign.{Assign}
 use Rattle.os_ast.specs.declared.stmt.Step.{Step}
@@ -28,7 +27,7 @@ use Rattle.os_parser_grammar.specs.Statements.{name, target, type_words, begins_
 use Rattle.os_parser_grammar.specs.declared.change_sign.ChangeSign.TheVariants as signs
 use Rattle.os_parser_grammar.specs.declared.stmt_start.StmtStart.TheVariants as starts
 use Rattle.os_parser_grammar.proofs.Follows.{Stops, stops-more, grows}
-use Rattle.os_parser_grammar.proofs.BackExprs.{Back, Plain, plain-back, Noted, noted-back, expect-back, depth-some, BackTarget, back-target, back-expr}
+use Rattle.os_parser_grammar.proofs.BackExprs.{Back, Plain, plain-back, Noted, noted-back, expect-back, depth-some, BackTarget, back-target, back-expr, closing}
 use Rattle.os_ast.specs.Beginnings.{CanBeginExpr}
 use Rattle.os_ast.proofs.Begins.{expr-begins}
 use Rattle.os_parser_grammar.proofs.BackParts.{begins-not, back-whole, back-head_declared, back-type, IsTypeWord, int, unsigned, type-begun, type-begins, listed-names}
@@ -191,9 +190,6 @@ ended-back part f x ps ts b = ended-read part f x ps ts b (plain-back b.fits)
 pub ending : {n : ℕ} (ps : List Symbol) → Stops n (bare (kind.Punct puncts.Semicolon) ∷ ps)
 ending ps = record { least = omega arith }
 
-pub closed : {n : ℕ} (ps : List Symbol) → Stops n (bare (kind.Punct puncts.CloseParen) ∷ ps)
-closed ps = record { least = omega arith }
-
 start-empty : (d : ℕ) (ps : List Symbol) (ts : List Placed) → Plain (kind.Punct puncts.Semicolon) ps ts → Back (start (below d)) tree.StartTree.Empty ps ts
 unfolding start
 start-empty d ps ts t =
@@ -272,5 +268,5 @@ pub back-step : (d : ℕ) {c : Option ChangeTree} (ps : List Symbol) (ts : List 
     Fit (spelling.optional spelling.change c (bare (kind.Punct puncts.CloseParen) ∷ ps)) ts → Back (step (below d)) c ps ts
 back-step d ps ts leveled.IsOptional.absent h f = step-none d ps ts (plain-back f)
 back-step d ps ts (leveled.IsOptional.present is) h f =
-    let b = back-change d _ ts is h (closed ps) f in
+    let b = back-change d _ ts is h (closing ps) f in
     step-some d _ ps ts b (plain-back b.back.fits)

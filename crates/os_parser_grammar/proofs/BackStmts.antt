@@ -29,8 +29,8 @@ use Rattle.os_parser_grammar.specs.declared.stmt_start.StmtStart.{StmtStart}
 use Rattle.os_parser_grammar.specs.declared.stmt_start.StmtStart.TheVariants as starts
 use Rattle.os_parser_grammar.proofs.Depths.{readers_of-inner}
 use Rattle.os_parser_grammar.proofs.SameKinds.{same-equal}
-use Rattle.os_parser_grammar.proofs.BackExprs.{Back, Plain, plain-back, Noted, expect-back, name_of, back-expr}
-use Rattle.os_parser_grammar.proofs.BackChanges.{Targeted, closed}
+use Rattle.os_parser_grammar.proofs.BackExprs.{Back, Plain, plain-back, Noted, expect-back, name_of, back-expr, closing}
+use Rattle.os_parser_grammar.proofs.BackChanges.{Targeted}
 
 pub stmt-some : (s : StmtTree) → 1 ≤ stmt_depth s
 stmt-some tree.StmtTree.Empty = omega arith
@@ -147,7 +147,7 @@ pub back-condition : (c : ℕ) {e : ExprTree} (ps : List Symbol) (ts : List Plac
     Back (condition (layer (below c))) e ps ts
 back-condition c ps ts is h f =
     let t = plain-back f in
-    let b = back-expr c is h t.fits (closed _) in
+    let b = back-expr c is h t.fits (closing _) in
     condition-back c _ ps _ ts t b (plain-back b.fits)
 
 pub if-back : (c : ℕ) (e : ExprTree) (a : StmtTree) (ps p0 p1 : List Symbol) (ts : List Placed) → (t : Plain (kind.Key keys.If) p0 ts) →

@@ -1,6 +1,7 @@
 -- The statements of a block, read one at a time.
-use Rattle.std.proofs.Common.{◌≡◌, ℕ, suc, ◌+◌, ◌-◌, ◌<◌, List, [], ◌∷◌, ◌++◌, length, true, false, refl, sym, ap, arith}
+use Rattle.std.proofs.Common.{◌≡◌, ℕ, ◌+◌, ◌-◌, ◌<◌, List, [], ◌∷◌, ◌++◌, length, true, false, refl, sym, ap}
 use Rattle.std.proofs.lemmas.List.{length_push}
+use Rattle.os_parser_grammar.proofs.Lists.{fuel-left}
 use Rattle.os_ast.specs.Means.{Placed}
 use Rattle.os_ast.specs.Trees as tree
 use Rattle.os_ast.specs.Trees.{StmtTree, Stmts}
@@ -25,9 +26,6 @@ stmts_onto-none : (ss : List Stmt) → stmts_onto ss tree.no_stmts ≡ stmts_tre
 unfolding stmts_onto
 stmts_onto-none [] = refl
 stmts_onto-none (s ∷ ss) = ap (tree.stmt (stmt_tree s)) (stmts_onto-none ss)
-
-fuel-left : (F n : ℕ) → n < F → (m : ℕ) × (F - n ≡ suc m) × (F - (n + 1) ≡ m)
-fuel-left F n h = (F - n - 1, omega arith, omega arith)
 
 -- statements that were read, before those that a reader gives
 unfoldable pub with_stmts : List Stmt → Read Stmts → Read Stmts

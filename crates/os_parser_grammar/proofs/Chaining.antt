@@ -1,6 +1,7 @@
 -- Chains and lists, read one part at a time.
 use Rattle.std.proofs.Common.{◌≡◌, ℕ, zero, suc, ◌+◌, ◌-◌, ◌<◌, List, [], ◌∷◌, ◌++◌, length, Some, None, true, false, refl, sym, ap, ◌∙◌, arith}
 use Rattle.std.proofs.lemmas.List.{length_push}
+use Rattle.os_parser_grammar.proofs.Lists.{fuel-left}
 use Rattle.os_ast.specs.Means.{Placed}
 use Rattle.os_ast.specs.Trees as tree
 use Rattle.os_ast.specs.Trees.{ExprTree, Links, Args}
@@ -84,9 +85,6 @@ pub args_onto-none : (es : List Expr) → args_onto es tree.no_args ≡ args_tre
 unfolding args_onto
 args_onto-none [] = refl
 args_onto-none (e ∷ es) = ap (tree.arg (expr_tree e)) (args_onto-none es)
-
-fuel-left : (F n : ℕ) → n < F → (m : ℕ) × (F - n ≡ suc m) × (F - (n + 1) ≡ m)
-fuel-left F n h = (F - n - 1, omega arith, omega arith)
 
 -- links that were read, before those that a reader gives
 unfoldable pub with_links : List Link → Read Links → Read Links

@@ -5,7 +5,7 @@ use Rattle.os_ast.specs.Means.{Placed}
 use Rattle.os_parser_grammar.specs.Reading.{Read, Reader, got, fails, ◌>>=◌, Same}
 use Rattle.os_parser_grammar.specs.Statements.{many, list_of, commas}
 
-fuel-left : (F n : ℕ) → n < F → (m : ℕ) × (F - n ≡ suc m) × (F - (n + 1) ≡ m)
+pub fuel-left : (F n : ℕ) → n < F → (m : ℕ) × (F - n ≡ suc m) × (F - (n + 1) ≡ m)
 fuel-left F n h = (F - n - 1, omega arith, omega arith)
 
 -- parts that were read, before those that a reader gives

@@ -19,7 +19,7 @@ pub record AreMarked (tokens : List Token) (word : ℕ) (marks : List Bool) (her
   pub stands : here ≡ clause_place_at tokens count
   pub few : open_in here ≤ count
 
-all_unmarked : (count place : ℕ) → get_or (replicate count false) place false ≡ false
+pub all_unmarked : (count place : ℕ) → get_or (replicate count false) place false ≡ false
 all_unmarked zero place = refl
 all_unmarked (suc count) zero = refl
 all_unmarked (suc count) (suc place) = all_unmarked count place
@@ -110,7 +110,7 @@ named-same tokens word marks here behind count h none next few = record {
     complete_of name place l before e (inr o) = h.complete name place l (omega (arith, before, o)) e
 
 -- a token that is there stands among the tokens
-kind_within : (tokens : List Token) (place : ℕ) (k : Kind) → kind_at tokens place ≡ Some k → place < length tokens
+pub kind_within : (tokens : List Token) (place : ℕ) (k : Kind) → kind_at tokens place ≡ Some k → place < length tokens
 kind_within [] place k is = cc
 kind_within (t ∷ ts) zero k is = omega arith
 kind_within (t ∷ ts) (suc place) k is = let rest = kind_within ts place k is in omega (arith, rest)

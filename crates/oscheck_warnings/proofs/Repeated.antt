@@ -1,8 +1,8 @@
 -- Marks of names that are spelled twice, where some of the tokens were gone over.
-use Rattle.std.proofs.Common.{◌≡◌, ◌≢◌, ℕ, ◌+◌, ◌<◌, ◌⊎◌, inl, inr, Bool, true, false, List, [], ◌∷◌, zero, suc, ◌≤◌, length, get_or, set, replicate, Some, refl, sym, ap, ◌∙◌, arith, length-set}
+use Rattle.std.proofs.Common.{◌≡◌, ◌≢◌, ℕ, ◌+◌, ◌<◌, ◌⊎◌, inl, inr, Bool, true, false, List, ◌≤◌, length, get_or, set, replicate, Some, sym, ap, ◌∙◌, arith, length-set}
 use Rattle.std.proofs.lemmas.Bool.{cases_eq}
 use Rattle.std.proofs.lemmas.List.{get_or-set_same, get_or-set_other, length-replicate}
-use Rattle.os_lexer.specs.declared.token.Kind.{Kind}
+use Rattle.oscheck_warnings.proofs.Named.{kind_within, all_unmarked}
 use Rattle.os_lexer.specs.declared.token.Kind.TheVariants as kind
 use Rattle.os_lexer.specs.declared.token.Token.{Token}
 use Rattle.oscheck_warnings.specs.Warnings.{kind_at, StandsElsewhere, AreRepeated}
@@ -15,11 +15,6 @@ pub record AreMarked (tokens : List Token) (marks : List Bool) (count : ℕ) : T
   pub counted : length marks ≡ length tokens
   pub sound : (place : ℕ) → get_or marks place false ≡ true → Again tokens place
   pub complete : (place other : ℕ) → place < length tokens → other < count → other ≢ place → kind_at tokens other ≡ Some (kind.Name (12 + place)) → get_or marks place false ≡ true
-
-all_unmarked : (count place : ℕ) → get_or (replicate count false) place false ≡ false
-all_unmarked zero place = refl
-all_unmarked (suc count) zero = refl
-all_unmarked (suc count) (suc place) = all_unmarked count place
 
 -- none were gone over
 pub marks-none : (tokens : List Token) (marks : List Bool) → marks ≡ replicate (length tokens) false → AreMarked tokens marks 0
@@ -84,12 +79,6 @@ marks-same tokens marks count h none = record {
         (other ≡ count) ⊎ (other ≢ count) → get_or marks place false ≡ true
     complete_of place other l before e k (inl o) = absurd (none place (λ same. e (o ∙ sym same)) (ap (kind_at tokens) (sym o) ∙ k))
     complete_of place other l before e k (inr o) = h.complete place other l (omega (arith, before, o)) e k
-
--- a token that is there stands among the tokens
-kind_within : (tokens : List Token) (place : ℕ) (k : Kind) → kind_at tokens place ≡ Some k → place < length tokens
-kind_within [] place k is = cc
-kind_within (t ∷ ts) zero k is = omega arith
-kind_within (t ∷ ts) (suc place) k is = let rest = kind_within ts place k is in omega (arith, rest)
 
 -- all tokens were gone over
 pub marks-all : (tokens : List Token) (marks : List Bool) (count : ℕ) → AreMarked tokens marks count → length tokens ≤ count → AreRepeated tokens marks

@@ -23,12 +23,12 @@ record Change (e : Effect) (task : ℕ) (w : Option What) (reads : ℕ → ℕ �
   pub is : w ≡ Some (what.Scalar slot)
   pub unread : is_unread (reads task slot) looped index ≡ true
 
-both : (b c : Bool) → (b && c) ≡ true → (b ≡ true) × (c ≡ true)
+pub both : (b c : Bool) → (b && c) ≡ true → (b ≡ true) × (c ≡ true)
 both true true h = (refl, refl)
 both true false h = cc
 both false c h = cc
 
-below_by_test : (a b : ℕ) → ltb a b ≡ true → a < b
+pub below_by_test : (a b : ℕ) → ltb a b ≡ true → a < b
 below_by_test a b h = grind (arith, nat_tests)
 
 not_below_by_test : (a b : ℕ) → not (ltb a b) ≡ true → b ≤ a
@@ -53,10 +53,10 @@ change_parts effect.Change task (Some (what.Stream first count)) reads looped in
 change_parts effect.Change task (Some (what.Element n)) reads looped index h = cc
 change_parts effect.Change task (Some (what.View n)) reads looped index h = cc
 
-test_below : (a b : ℕ) → a < b → ltb a b ≡ true
+pub test_below : (a b : ℕ) → a < b → ltb a b ≡ true
 test_below a b h = grind (arith, nat_tests)
 
-and_both : (b c : Bool) → b ≡ true → c ≡ true → (b && c) ≡ true
+pub and_both : (b c : Bool) → b ≡ true → c ≡ true → (b && c) ≡ true
 and_both true true h k = refl
 and_both true false h k = cc
 and_both false c h k = cc

@@ -3,6 +3,7 @@ use Rattle.std.proofs.Common.{◌≡◌, ◌≢◌, ◌∙◌, ℕ, ◌<◌, ◌
 use Rattle.std.proofs.lemmas.Bool.Decides.{nat_tests}
 use Rattle.std.specs.Prelude.{◌==◌, ltb}
 use Rattle.std.specs.List.{slice_get}
+use Rattle.oscheck_warnings.proofs.Unread.{and_both, both, below_by_test, test_below}
 use Rattle.os_ast.specs.declared.names.What.{What}
 use Rattle.os_ast.specs.declared.names.What.TheVariants as what
 use Rattle.oscheck_warnings.specs.Bursts.{window_of, IsWrongBurst, AreWrongBursts}
@@ -28,22 +29,6 @@ amount_other size (amount.Number n) h = differ (size == n) refl
     differ true e = let same : n ≡ size = grind (arith, nat_tests) in absurd (h (ap amount.Number same))
     differ false e = refl
 amount_other size amount.BelowZero h = refl
-
-both : (b c : Bool) → (b && c) ≡ true → (b ≡ true) × (c ≡ true)
-both true true h = (refl, refl)
-both true false h = cc
-both false c h = cc
-
-and_both : (b c : Bool) → b ≡ true → c ≡ true → (b && c) ≡ true
-and_both true true h k = refl
-and_both true false h k = cc
-and_both false c h k = cc
-
-below_by_test : (a b : ℕ) → ltb a b ≡ true → a < b
-below_by_test a b h = grind (arith, nat_tests)
-
-test_below : (a b : ℕ) → a < b → ltb a b ≡ true
-test_below a b h = grind (arith, nat_tests)
 
 -- a burst that traps, by its parts
 record Wrong (b : Bracket) (w : Option What) (sizes : ℕ → Option Amount) (a : Amount) : Type 0 where

@@ -1,11 +1,11 @@
 -- The answer of a call doesn't depend on the number of workers.
-use Rattle.std.proofs.Common.{◌≡◌, ◌≢◌, ◌∙◌, inl, inr, subst, ℕ, ◌<◌, ◌≤◌, List, [], ◌∷◌, Option, Some, None, All, IfSome, IsSomeAnd, refl, sym, ap, arith, append-nil, length, slice_get, take}
+use Rattle.std.proofs.Common.{◌≡◌, ◌≢◌, ◌∙◌, inl, inr, subst, ℕ, ◌<◌, ◌≤◌, List, [], ◌∷◌, Option, Some, None, All, IfSome, IsSomeAnd, refl, sym, ap, arith, length, slice_get, take}
 use Rattle.std.specs.Prelude.{IsSome}
-use Rattle.std.specs.Io.KnownBytes.{append_known}
 use Rattle.std.proofs.lemmas.Bool.{cases_lt, cases_order, false≢true}
 use Rattle.std.proofs.lemmas.List.{get_or-take, length-take}
 use Rattle.std.proofs.lemmas.List.Elements.{All-nil, All-cons, All-head, All-tail, All-take, All-get_or}
 use Rattle.std.proofs.lemmas.Option.{get_or_from_slice_get, same_Some, slice_get_within}
+use Rattle.collector.proofs.Buffered.{append_known-nil}
 use Rattle.front_end.specs.Texts.{OneRefusal}
 use Rattle.os_io.specs.declared.files.Files.{Ghosts as FilesView}
 use Rattle.os_io.specs.declared.sink.Sink.{Ghosts as SinkView}
@@ -229,10 +229,6 @@ module _ {F : Type 0} (view : FilesView F) where
 -- a refusal is given so
 abbrev refusal_outcome : Refusal → JobOutcome
 refusal_outcome r = record { output = []; told = refusal_line r; own = status_code (refusal_status r) }
-
-append_known-nil : (known : Option (List ℕ)) → known ≡ append_known known []
-append_known-nil None = refl
-append_known-nil (Some bytes) = ap Some (sym (append-nil bytes))
 
 took_nothing : {S : Type 0} (view : SinkView S) (old new : S) → new ≡ old → Took view old new []
 took_nothing view old new same = (ap view.taken same ∙ append_known-nil (view.taken old), ap view.faults same, ap view.empty_takes same)

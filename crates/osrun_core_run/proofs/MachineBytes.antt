@@ -1,8 +1,9 @@
 -- What the machine makes of an activation writes nothing but bytes to the output.
-use Rattle.std.proofs.Common.{◌≡◌, ◌∙◌, ℕ, ℤ, pos, ◌+◌, Bool, true, false, cond, not, List, [], ◌∷◌, ◌++◌, Option, Some, length, map, slice_get, take, drop, replicate, refl, sym, ap, ap₂, subst, arith}
+use Rattle.std.proofs.Common.{◌≡◌, ◌∙◌, ℕ, ℤ, pos, ◌+◌, Bool, true, false, cond, not, List, [], ◌∷◌, ◌++◌, Some, length, map, slice_get, take, drop, replicate, refl, sym, ap, ap₂, subst, arith}
 use Rattle.std.specs.Prelude.{◌&&◌, ◌||◌}
 use Rattle.std.specs.List.{list_all}
 use Rattle.std.proofs.lemmas.List.{length-drop, length-replicate, length-take}
+use Rattle.os_code.proofs.Proper.{keeps-step, kept-going, sound-going}
 use Rattle.cddf_meaning.specs.Body.{gives_bytes, outputs_of, writes_output}
 use Rattle.c_int.specs.Traps.{trap_code}
 use Rattle.flow_core_laws.specs.Byte.{is_byte}
@@ -12,65 +13,41 @@ use Rattle.flow_core_laws.specs.declared.activation.Activation.{Activation}
 use Rattle.flow_core_laws.specs.declared.claim.Claim.{Claim}
 use Rattle.flow_core_laws.specs.declared.outcome.Outcome.{Outcome}
 use Rattle.flow_core_laws.specs.declared.task_end.TaskEnd.TheVariants as task
-use Rattle.os_code.specs.declared.instr.Instr.{Instr}
 use Rattle.os_code.specs.declared.parts.Parts.{Parts}
 use Rattle.os_code.specs.declared.site.Site.{Site}
 use Rattle.os_code.specs.declared.unit.CodeUnit.{CodeUnit}
 use Rattle.os_code.specs.IsValid.{IsValid}
 use Rattle.os_code.specs.Laws.{TasksEnd}
-use Rattle.os_code.specs.Machine.{MachineState, TaskWindow, Halt, Progress, Going, Halted, act, step, Runs, Halts, GoesOn}
+use Rattle.os_code.specs.Machine.{MachineState, TaskWindow, Halt, Progress, Halted, step, Runs, Halts, GoesOn}
 use Rattle.os_code.specs.Outcomes.{code_outcome}
-use Rattle.os_code.specs.Parts.{unit_at, kind_at}
+use Rattle.os_code.specs.Parts.{unit_at}
 use Rattle.os_code.specs.Tasks.{TaskOutcome, IsDone, SendsNoByte, IsTrapped, IsOver, sends_bytes, task_start, task_windows, written_elements}
 use Rattle.os_code.proofs.Halting.{task_stands}
-use Rattle.os_code.proofs.Keeping.{Keeps, KeepsGoing, KeepsHalted, KeepsStuck, few_codes, keeps, shape_of}
-use Rattle.os_code.proofs.Lists.{there}
+use Rattle.os_code.proofs.Keeping.{Keeps, KeepsGoing, KeepsHalted, KeepsStuck, keeps, shape_of}
 use Rattle.os_code.proofs.Proceeding.{proceeds}
-use Rattle.os_code.proofs.Regions.{next_start-end, within}
-use Rattle.os_code.proofs.Sound.{Goes, IsSound, Job, Proceeds}
-use Rattle.os_code.proofs.Sound.{Halts as StopsAt}
-use Rattle.os_code.proofs.Straight.{has_instr}
+use Rattle.os_code.proofs.Sound.{IsSound, Job}
 use Rattle.osrun_core_run.specs.BodyLaws.{CodesGiveBytes, GivesBytes}
 use Rattle.osrun_core_run.proofs.BodyBytes.{nothing, read_sum, read_sum-cons}
 use Rattle.osrun_core_run.proofs.WrittenBytes.{bytes_written}
 
 -- ---- a run of a task keeps the claims of its windows, and how many elements each has
 
-keeps_step : (code : Parts) → IsValid code → (job : Job) (left : ℕ) (s : MachineState) → job.is_main ≡ false → IsSound code job left s → Keeps 4 s (step code s)
-keeps_step code valid job left s no_main sound =
-    let at = within code sound.unit s.place sound.stands.is_within in
-    let inside = next_start-end (length code.instrs) sound.unit.start code.units in
-    let here = there code.instrs s.place (omega (arith, at.to, inside)) in
-    let fits = valid.sites.kinds_fit sound.number s.place sound.unit here.0 (has_instr code job left s here.0 sound here.1) in
-    let few = few_codes (kind_at code sound.number) here.0 fits (λ e. let no : false ≡ true = sym no_main ∙ sound.stands.main e in cc) in
-    subst (λ (o : Option Instr). Keeps 4 s (act code s o)) (sym here.1)
-    (subst (λ (n : ℕ). Keeps n s (act code s (Some here.0))) few (keeps code s here.0))
-
 kept_halted : (s last : MachineState) (halt : Halt) (p : Progress) → Keeps 4 s p → p ≡ Halted halt last → shape_of last.windows ≡ shape_of s.windows
 kept_halted s last halt _ (KeepsGoing shape) e = cc
 kept_halted s last halt _ KeepsStuck e = cc
 kept_halted s last halt _ (KeepsHalted {t = t} shape codes) e = let same : t ≡ last = cc in ap (λ (u : MachineState). shape_of u.windows) (sym same) ∙ shape
 
-kept_going : (s t : MachineState) (p : Progress) → Keeps 4 s p → p ≡ Going t → shape_of t.windows ≡ shape_of s.windows
-kept_going s t _ (KeepsGoing {t = u} shape) e = let same : u ≡ t = cc in ap (λ (v : MachineState). shape_of v.windows) (sym same) ∙ shape
-kept_going s t _ KeepsStuck e = cc
-kept_going s t _ (KeepsHalted shape codes) e = cc
-
 record SoundAt (code : Parts) (job : Job) (t : MachineState) : Type 0 where
   pub left : ℕ
   pub sound : IsSound code job left t
 
-sound_going : (code : Parts) (job : Job) (left : ℕ) (p : Progress) (t : MachineState) → Proceeds code job left p → p ≡ Going t → SoundAt code job t
-sound_going code job _ _ t (Goes {left = left} {t = u} sound) e = let same : u ≡ t = cc in record { left = left; sound = subst (IsSound code job left) same sound }
-sound_going code job _ _ t (StopsAt limits) e = cc
-
 run_keeps : (code : Parts) → IsValid code → (job : Job) → job.is_main ≡ false → (left : ℕ) (s last : MachineState) (halt : Halt) (n : ℕ) → IsSound code job left s → Runs code s halt last n
     → shape_of last.windows ≡ shape_of s.windows
-run_keeps code valid job no_main left s last halt _ sound (Halts is) = kept_halted s last halt (step code s) (keeps_step code valid job left s no_main sound) is
+run_keeps code valid job no_main left s last halt _ sound (Halts is) = kept_halted s last halt (step code s) (keeps-step code valid job left s no_main sound) is
 run_keeps code valid job no_main left s last halt _ sound (GoesOn {t = t} {steps = n} is rest) =
-    let next = sound_going code job left (step code s) t (proceeds code valid job left s sound) is in
+    let next = sound-going code job left (step code s) t (proceeds code valid job left s sound) is in
     run_keeps code valid job no_main next.left t last halt n next.sound rest
-    ∙ kept_going s t (step code s) (keeps_step code valid job left s no_main sound) is
+    ∙ kept-going s t (step code s) (keeps-step code valid job left s no_main sound) is
 
 -- ---- at the start each claim has as many elements as its horizon
 

@@ -6,16 +6,12 @@ use Rattle.std.specs.List.{list_all}
 use Rattle.std.proofs.lemmas.Bool.{and_parts, ltb-true}
 use Rattle.std.proofs.lemmas.Int.{ints}
 use Rattle.std.proofs.lemmas.List.Sums.{sum_by-cons}
+use Rattle.cddf_meaning.proofs.Written.{first-of, others-of}
+use Rattle.flow_core_laws.proofs.Stretches.{slice_get-append_left}
 use Rattle.flow_core_laws.specs.Byte.{IsByte, is_byte}
 use Rattle.cddf_meaning.specs.Body.{gives_bytes, writes_output, outputs_of}
 use Rattle.flow_core_laws.specs.Window.{is_alike, offset_after}
 use Rattle.flow_core_laws.specs.declared.claim.Claim.{Claim}
-
--- an element of joined lists
-slice_get-first : {A : Type 0} (xs ys : List A) (i : ℕ) → i < length xs → slice_get (xs ++ ys) i ≡ slice_get xs i
-slice_get-first [] ys i lt = absurd (omega arith)
-slice_get-first (x ∷ xs) ys zero lt = refl
-slice_get-first (x ∷ xs) ys (suc i) lt = slice_get-first xs ys i (omega arith)
 
 slice_get-second : {A : Type 0} (xs ys : List A) (i : ℕ) → slice_get (xs ++ ys) (length xs + i) ≡ slice_get ys i
 slice_get-second [] ys i = ap (slice_get ys) (zero-add i)
@@ -37,12 +33,6 @@ claim_gives c vs write stream h =
     let e : writes_output c ≡ true = ap (λ w. w && (c.stream == 1)) write ∙ ap (λ s. s == 1) stream in
     ap (λ w. not w || list_all is_byte vs) (sym e) ∙ h
 
-first-of : {a b : ℕ} {ms ns : List ℕ} → a ∷ ms ≡ b ∷ ns → a ≡ b
-first-of h = cc
-
-others-of : {a b : ℕ} {ms ns : List ℕ} → a ∷ ms ≡ b ∷ ns → ms ≡ ns
-others-of h = cc
-
 abbrev horizons : List Claim → List ℕ
 horizons claims = map (λ (c : Claim). c.horizon) claims
 
@@ -57,7 +47,7 @@ bytes_written (d ∷ ds) (vs ∷ items) long gives zero j c value at write strea
     let bytes = claim_gives c vs write stream (subst (λ (e : Claim). (not (writes_output e) || list_all is_byte vs) ≡ true) same parts.0) in
     let size : length vs ≡ c.horizon = first-of long ∙ ap (λ (e : Claim). e.horizon) same in
     let writes : d.write ≡ true = ap (λ (e : Claim). e.write) same ∙ write in
-    let at_j : slice_get vs j ≡ Some value = sym (slice_get-first vs (outputs_of ds items) j (omega (arith, size, lt))) ∙ ap (slice_get (vs ++ outputs_of ds items)) (sym (zero-add j)) ∙ ap (λ b. slice_get (cond b (vs ++ outputs_of ds items) (outputs_of ds items)) (0 + j)) (sym writes) ∙ is in
+    let at_j : slice_get vs j ≡ Some value = sym (slice_get-append_left vs (outputs_of ds items) j (omega (arith, size, lt))) ∙ ap (slice_get (vs ++ outputs_of ds items)) (sym (zero-add j)) ∙ ap (λ b. slice_get (cond b (vs ++ outputs_of ds items) (outputs_of ds items)) (0 + j)) (sym writes) ∙ is in
     byte_at vs j value bytes at_j
 bytes_written (d ∷ ds) (vs ∷ items) long gives (suc k) j c value at write stream lt is =
     bytes_written ds items (others-of long) (and_parts (not (writes_output d) || list_all is_byte vs) (gives_bytes ds items) gives).1 k j c value at write stream lt (behind d.write refl)

@@ -1,8 +1,9 @@
 -- What is kept, frame by frame.
-use Rattle.std.proofs.Common.{◌≡◌, ◌≢◌, ◌<◌, ℕ, zero, suc, ℤ, subst, List, [], ◌∷◌, Option, Some, None, true, length, map, set, get_or, refl, sym, ap, ◌∙◌, ◌⊎◌, inl, inr}
+use Rattle.std.proofs.Common.{◌≡◌, ◌≢◌, ◌<◌, ℕ, ℤ, subst, List, [], Option, Some, None, true, length, map, set, get_or, sym, ap, ◌∙◌, ◌⊎◌, inl, inr}
 use Rattle.std.specs.Prelude.{is_some}
 use Rattle.std.proofs.lemmas.Bool.{cases_eq}
 use Rattle.std.proofs.lemmas.List.{get_or-set_same, get_or-set_other}
+use Rattle.flow_core.proofs.Running.{no_end}
 use Rattle.flow_core_laws.specs.Outcome.{State, outcome_at}
 use Rattle.flow_core_laws.specs.declared.outcome.Outcome.{Outcome}
 use Rattle.flow_core_laws.specs.declared.plan.FramePlan.{FramePlan}
@@ -11,12 +12,6 @@ use Rattle.flow_core_laws.specs.declared.task_end.TaskEnd.{TaskEnd}
 use Rattle.flow_core_laws.specs.declared.task_end.TaskEnd.TheVariants.{Done}
 use Rattle.flow_core.specs.Shows.{HasOutcome, Reads, end_at}
 use Rattle.osview_outcomes.specs.Kept.{AreKept}
-
--- nothing has an end at the opening
-no_end : (frames : List FramePlan) (f : ℕ) → end_at (map (λ (p : FramePlan). None) frames) f ≡ None
-no_end [] f = refl
-no_end (p ∷ ps) zero = refl
-no_end (p ∷ ps) (suc f) = no_end ps f
 
 pub kept_at_first : (plan : Plan) (m : State) (frames : List FramePlan) (ends : List (Option TaskEnd)) (inputs outputs : List (List ℤ))
     → ends ≡ map (λ (p : FramePlan). None) frames → AreKept plan m ends inputs outputs

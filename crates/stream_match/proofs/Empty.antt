@@ -7,6 +7,7 @@ use Rattle.std.proofs.lemmas.Bool.{cases_eq, ltb-true, ltb-false}
 use Rattle.std.proofs.lemmas.List.Elements.{All-head, All-tail}
 use Rattle.std.proofs.lemmas.List.Sums.{sum_by-cons}
 use Rattle.std.proofs.lemmas.Option.{slice_get_within, get_or_from_slice_get, same_Some}
+use Rattle.flow_core_laws.proofs.FewPieces.{other_test}
 use Rattle.flow_core_laws.specs.declared.activation.Activation.{Activation}
 use Rattle.flow_core_laws.specs.declared.elem.Elem.{Elem}
 use Rattle.flow_core_laws.specs.declared.elem.Elem.TheVariants.{Value}
@@ -25,7 +26,7 @@ use Rattle.stream_match.specs.Weave.{Reach, total, WritesAt}
 use Rattle.stream_match.specs.EpochPlan.{AscendInLayout, WrittenOutside, opening_element, epoch_opening, weave_over, staying, leaving_reach, leaving_reaches}
 use Rattle.stream_match.specs.EpochCode.{IsEmpty, filled_cells, empty_in, stretches_from, with_positions}
 use Rattle.stream_match.specs.Whole.{output_reach}
-use Rattle.stream_match.proofs.Counting.{same_test, other_test}
+use Rattle.stream_match.proofs.Counting.{same_test}
 use Rattle.stream_match.proofs.LookUp.{found_number}
 use Rattle.stream_match.proofs.EpochWeave.{span_stream, leaving_exist, leaving_fits, none_kept}
 use Rattle.stream_match.proofs.Leaves.{is_writer}

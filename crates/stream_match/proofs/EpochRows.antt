@@ -9,6 +9,7 @@ use Rattle.std.proofs.lemmas.List.Elements.{All-head, All-tail}
 use Rattle.std.proofs.lemmas.List.FromFn.{length-map-range_with_len}
 use Rattle.std.proofs.lemmas.List.Sums.{sum_by-cons}
 use Rattle.std.proofs.lemmas.Option.{slice_get-get_or, slice_get_within, get_or_from_slice_get}
+use Rattle.stream_match_layouts.proofs.Pushing.{map-range-same}
 use Rattle.flow_core_laws.specs.declared.plan.FramePlan.{FramePlan}
 use Rattle.flow_core_laws.specs.declared.plan.Piece.{Piece}
 use Rattle.flow_core_epochs.specs.Epoch.{number_among}
@@ -197,10 +198,6 @@ has_place layout frames pieces waits plans are = record {
   one_each = ap length are ∙ length-map-range_with_len (epoch_frame layout frames pieces waits) 0 (length frames);
   places = ap (map (λ (f : FramePlan). f.piece)) are ∙ map_map (epoch_frame layout frames pieces waits) (λ (f : FramePlan). f.piece) (range_with_len 0 (length frames));
 }
-
-map-range-same : {X : Type 0} (f g : ℕ → X) (a n : ℕ) → ((k : ℕ) → a ≤ k → k < a + n → f k ≡ g k) → map f (range_with_len a n) ≡ map g (range_with_len a n)
-map-range-same f g a zero h = refl
-map-range-same f g a (suc n) h = ap (λ x. x ∷ map f (range_with_len (a + 1) n)) (h a (omega arith) (omega arith)) ∙ ap (λ xs. g a ∷ xs) (map-range-same f g (a + 1) n (λ k l u. h k (omega arith) (omega arith)))
 
 pub frames_are_woven : (layout : Layout) (input frames : List ℕ) (kept : List Kept) (sink : List Reach) (pieces : List Piece) (waits : List ℕ) → pieces ≡ woven_pieces layout (weave_over layout input frames (map kept_of kept) sink)
     → ((f : ℕ) → f < length frames → get_or waits f 0 ≡ count_by is_none (frame_cells (weave_over layout input frames (map kept_of kept) sink) f))

@@ -8,6 +8,7 @@ use Rattle.std.proofs.lemmas.List.{take_all, take-take}
 use Rattle.std.proofs.lemmas.List.FromFn.{fill_by_all}
 use Rattle.std.proofs.lemmas.List.Sums.{sum_by_more, sum_by-append, sum_by-cons, sum_by-take-le}
 use Rattle.std.proofs.lemmas.Option.{slice_get-get_or, slice_get_within, get_or_from_slice_get, same_Some}
+use Rattle.flow_core_laws.proofs.FewPieces.{other_test}
 use Rattle.flow_core_laws.specs.declared.activation.Activation.{Activation}
 use Rattle.flow_core_laws.specs.Window.{Window, windows, producer, windows_of}
 use Rattle.flow_core_laws.proofs.Sources.{find_passes}
@@ -29,7 +30,6 @@ use Rattle.stream_match_layouts.proofs.Tallies.{spans-few, sums-next, sum-le}
 use Rattle.stream_match_layouts.proofs.FrameSpans.{output_within, no_input_writer, spans_of-windows, start-le}
 use Rattle.stream_match.specs.Weave.{Reach, no_reach, total, Weave, cells_of_first, reach_at, WritesAt, CanWeave}
 use Rattle.stream_match.specs.EpochPlan.{reaches_over, AscendInLayout, read_reach, leaving_reaches, opening_element, weave_over, WrittenOutside, epoch_weave, staying, leaving_reach}
-use Rattle.stream_match.proofs.Counting.{other_test}
 use Rattle.stream_match.proofs.WovenSound.{sum_by-map}
 use Rattle.stream_match.proofs.Weaving.{first-more}
 use Rattle.flow_core_epochs.proofs.Written.{has_window}

@@ -5,6 +5,7 @@ use Rattle.std.specs.List.{flat_map, range_with_len}
 use Rattle.std.proofs.lemmas.Bool.{cases_lt, ltb-false}
 use Rattle.std.proofs.lemmas.List.{length-append}
 use Rattle.std.proofs.lemmas.List.Sums.{sum_by-append, sum_by-cons, sum_by_more_le, count_by-le-length}
+use Rattle.flow_core_laws.proofs.FewPieces.{other_test}
 use Rattle.flow_core_laws.proofs.Stretches.{flat_map-range_more}
 use Rattle.stream_match.specs.declared.kept.Kept.{Kept}
 use Rattle.stream_match_layouts.specs.declared.layout.Layout.{Layout}
@@ -14,7 +15,7 @@ use Rattle.stream_match.specs.Weave.{Reach, reach_cells, frame_cells}
 use Rattle.stream_match.specs.EpochPlan.{read_reach, epoch_opening, weave_over}
 use Rattle.stream_match.specs.Kept.{kept_of}
 use Rattle.stream_match.specs.EpochCode.{empty_in, filled_cells, stretches_from, with_positions, reads_before, read_part}
-use Rattle.stream_match.proofs.Counting.{same_test, other_test}
+use Rattle.stream_match.proofs.Counting.{same_test}
 use Rattle.stream_match.proofs.Rows.{cells_from, reaches-read, reaches-left}
 
 -- what stands for a stretch where there is none

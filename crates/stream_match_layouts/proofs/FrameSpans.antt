@@ -66,7 +66,7 @@ pub claims_in-windows_of : (activations : List Activation) (a : ℕ) → claims_
 claims_in-windows_of activations a = claims_in-first a (claims_of (take a activations)) (claims_at activations a) (length (claims_at activations a)) (omega arith) ∙ take_all (length (claims_at activations a)) (claims_at activations a) (omega arith)
 
 -- what a frame's spans write
-written_spans : (ws : List Window) → sum_by write_count (map span_of ws) ≡ sum_by (λ (c : Claim). c.horizon) (filter (λ (c : Claim). c.write) (claims_in ws))
+pub written_spans : (ws : List Window) → sum_by write_count (map span_of ws) ≡ sum_by (λ (c : Claim). c.horizon) (filter (λ (c : Claim). c.write) (claims_in ws))
 written_spans [] = refl
 written_spans (w ∷ ws) = sum_by-cons write_count (span_of w) (map span_of ws) ∙ ap (λ n. cond {A = ℕ} w.claim.write w.claim.horizon 0 + n) (written_spans ws) ∙ at w.claim.write
   where

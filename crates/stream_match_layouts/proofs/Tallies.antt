@@ -16,7 +16,7 @@ use Rattle.stream_match_layouts.specs.Spans.{frame_count, start_of, spans_of, re
 use Rattle.stream_match_layouts.proofs.Windows.{claims_in-windows}
 use Rattle.stream_match_layouts.proofs.Writers.{length-spans}
 
-sum_counts : (ws : List Window) → sum_by (λ (s : Span). s.count) (map span_of ws) ≡ sum_by (λ (c : Claim). c.horizon) (claims_in ws)
+pub sum_counts : (ws : List Window) → sum_by (λ (s : Span). s.count) (map span_of ws) ≡ sum_by (λ (c : Claim). c.horizon) (claims_in ws)
 sum_counts [] = refl
 sum_counts (w ∷ ws) = sum_by-cons (λ (s : Span). s.count) (span_of w) (map span_of ws) ∙ ap (λ n. w.claim.horizon + n) (sum_counts ws) ∙ sym (sum_by-cons (λ (c : Claim). c.horizon) w.claim (claims_in ws))
 

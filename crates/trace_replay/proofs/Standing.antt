@@ -1,5 +1,5 @@
 -- Steps of a replay.
-use Rattle.std.proofs.Common.{◌≡◌, ◌≢◌, ℕ, ℤ, zero, suc, ◌+◌, ◌<◌, ◌≤◌, List, [], ◌∷◌, ◌++◌, Option, Some, None, false, map, length, get_or, set, replicate, refl, sym, ap, ◌∙◌, subst, ◌⊎◌, inl, inr, arith, length-append, append_assoc, append-nil}
+use Rattle.std.proofs.Common.{◌≡◌, ◌≢◌, ℕ, ℤ, ◌+◌, ◌<◌, ◌≤◌, List, [], ◌∷◌, ◌++◌, Option, Some, None, false, map, length, get_or, set, replicate, refl, sym, ap, ◌∙◌, subst, ◌⊎◌, inl, inr, arith, length-append, append_assoc, append-nil}
 use Rattle.std.specs.Prelude.{is_some, slice_get}
 use Rattle.std.proofs.lemmas.Bool.{cases_lt, cases_eq}
 use Rattle.std.proofs.lemmas.List.{get_or-set_same, get_or-set_other, length-set}
@@ -18,7 +18,7 @@ use Rattle.flow_core.specs.declared.board.Board.{Board}
 use Rattle.flow_core.specs.Waits.{OpensMore}
 use Rattle.flow_core.specs.Counted.{IsCounted}
 use Rattle.flow_core.specs.Shows.{Shows, end_at}
-use Rattle.flow_core.proofs.Running.{IsRun-opening}
+use Rattle.flow_core.proofs.Running.{IsRun-opening, no_end}
 use Rattle.trace_replay_laws.specs.Orders.{after, after_all, IsLawful}
 use Rattle.trace_replay_laws.specs.Lists.{number_in, HaveNoRepeat, Taken, frames_of, taken_from, IsOrderOfHeads, head_after}
 use Rattle.trace_replay_laws.specs.Answers.{plan_after, AreFrames}
@@ -27,12 +27,6 @@ use Rattle.trace_replay_laws.proofs.Taking.{behind as stands_behind, taken-more,
 use Rattle.trace_replay.specs.Owners.{AreOwners}
 use Rattle.trace_replay.specs.Standing.{Stands, HeadWaits, AreQueued}
 use Rattle.trace_replay.proofs.State.{behind, free_is_enabled}
-
--- nothing has an end at the opening
-no_end_yet : (frames : List FramePlan) (f : ℕ) → end_at (map (λ (p : FramePlan). None) frames) f ≡ None
-no_end_yet [] f = refl
-no_end_yet (p ∷ ps) zero = refl
-no_end_yet (p ∷ ps) (suc f) = no_end_yet ps f
 
 pub stands_first : (plan : Plan) (outcome : ℕ → List ℤ → Outcome) (lists : List (List ℕ)) (places : List ℕ) (board : Board) → IsCounted plan board.cells.items board.waits → board.cells.items ≡ plan.filled → board.ends.items ≡ map (λ (p : FramePlan). None) plan.frames → length places ≡ length lists → ((k : ℕ) → k < length places → get_or places k 0 ≡ 0) → Stands plan outcome lists places board
 stands_first plan outcome lists places board counted cells ends len zeros = record {
@@ -43,7 +37,7 @@ stands_first plan outcome lists places board counted cells ends len zeros = reco
   at_places = λ k lt. zeros k (omega (arith, len, lt));
   counted = counted;
   shows = (IsRun-opening plan (plan_meaning plan outcome) board counted cells ends).shows;
-  ended = λ f. ap is_some (ap (λ (xs : List (Option TaskEnd)). end_at xs f) ends ∙ no_end_yet plan.frames f) ∙ sym (ap is_some (none_at_start {O = Outcome} (length plan.frames) f));
+  ended = λ f. ap is_some (ap (λ (xs : List (Option TaskEnd)). end_at xs f) ends ∙ no_end plan.frames f) ∙ sym (ap is_some (none_at_start {O = Outcome} (length plan.frames) f));
 }
 
 -- a head behind an order isn't one of its numbers

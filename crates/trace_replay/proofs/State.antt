@@ -1,8 +1,7 @@
 -- What a board shows of the state behind an order.
-use Rattle.std.proofs.Common.{◌≡◌, ℕ, zero, suc, ◌+◌, ◌<◌, ◌≤◌, ℤ, List, Option, Some, None, Bool, false, cond, map, length, refl, sym, ap, ◌∙◌, arith}
+use Rattle.std.proofs.Common.{◌≡◌, ℕ, ◌<◌, ◌≤◌, ℤ, List, Option, Some, None, Bool, false, cond, map, length, refl, sym, ap, ◌∙◌, arith}
 use Rattle.std.specs.Prelude.{is_some, option_and_then}
-use Rattle.std.specs.List.{range_with_len}
-use Rattle.flow_core_laws.specs.declared.elem.Elem.{Elem}
+use Rattle.flow_core.proofs.Running.{map-stretch}
 use Rattle.flow_core_laws.specs.declared.plan.Plan.{Plan}
 use Rattle.flow_core_laws.specs.declared.outcome.Outcome.{Outcome}
 use Rattle.flow_core_laws.specs.declared.task_end.TaskEnd.{TaskEnd}
@@ -28,13 +27,6 @@ use Rattle.trace_replay.specs.Standing.{Stands, MayRun}
 pub no_outcome : (o : Option Outcome) → is_some o ≡ false → o ≡ None
 no_outcome None h = refl
 no_outcome (Some o) h = absurd (cc)
-
-same_range : (f g : ℕ → Option Elem) (from n : ℕ) → ((c : ℕ) → from ≤ c → c < from + n → f c ≡ g c) → map f (range_with_len from n) ≡ map g (range_with_len from n)
-same_range f g from zero same = refl
-same_range f g from (suc n) same =
-    let here : f from ≡ g from = same from (omega arith) (omega arith) in
-    let rest : map f (range_with_len (from + 1) n) ≡ map g (range_with_len (from + 1) n) = same_range f g (from + 1) n (λ c l u. same c (omega arith) (omega arith)) in
-    cc
 
 module _ (plan : Plan) (outcome : ℕ → List ℤ → Outcome) (lists : List (List ℕ)) (places : List ℕ) (board : Board) (sound : IsSound plan) (stands : Stands plan outcome lists places board) where
   abbrev pub behind : State
@@ -67,7 +59,7 @@ module _ (plan : Plan) (outcome : ℕ → List ℤ → Outcome) (lists : List (L
   inputs_held : (f : ℕ) → f < length plan.frames → inputs_in (plan_element plan) (plan_reads plan) behind f ≡ gathered (map (held_at board.cells.items) (cells_of plan f))
   inputs_held f lt =
       ap gathered (map_map (cell_source plan) (plan_element plan behind) (cells_of plan f)
-      ∙ sym (same_range (held_at board.cells.items) (λ c. plan_element plan behind (cell_source plan c)) (frame_at plan f).cell (frame_at plan f).inputs (λ c low high. held_behind c (cell_exists f c (omega arith) (low, high)))))
+      ∙ sym (map-stretch (held_at board.cells.items) (λ c. plan_element plan behind (cell_source plan c)) (frame_at plan f).cell (frame_at plan f).inputs (λ c low high. held_behind c (cell_exists f c (omega arith) (low, high)))))
 
   -- a frame that misses nothing and has no end is enabled, and no other is
   pub free_is_enabled : (f : ℕ) → f < length plan.frames → MayRun board f → IsEnabled (plan_element plan) (plan_reads plan) behind f

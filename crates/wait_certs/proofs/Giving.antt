@@ -7,6 +7,7 @@ use Rattle.std.proofs.lemmas.Bool.{and_parts, eqb-true}
 use Rattle.std.proofs.lemmas.Bool.Decides.{nat_tests}
 use Rattle.std.proofs.lemmas.List.Folds.{list_any_at}
 use Rattle.std.proofs.lemmas.Option.{same_Some, slice_get_within, slice_get-map, get_or_from_slice_get}
+use Rattle.wait_certs_laws.proofs.Growing.{contained}
 use Rattle.flow_core_laws.specs.declared.activation.Activation.{Activation}
 use Rattle.flow_core_laws.specs.declared.place.Place.{Place}
 use Rattle.flow_core_laws.specs.declared.task_end.TaskEnd.{TaskEnd}
@@ -28,15 +29,6 @@ use Rattle.collector.specs.Missing.{missing, missing_at, producing}
 use Rattle.collector.proofs.Firsts.{none_found, one_found}
 use Rattle.wait_certs_laws.specs.Chain.{the_input, activation, nobody, giver, Awaits, last_of}
 use Rattle.wait_certs.specs.Searching.{AllEndedBut, EndsInVain, is_produced_by, reads_from, has_member}
-
--- what a list that has a number by the test contains
-pub contained : (b : ℕ) (xs : List ℕ) → list_any (λ x. b == x) xs ≡ true → Contains xs b
-contained b [] h = absurd (cc)
-contained b (x ∷ xs) h = by (b == x) refl h (contained b xs)
-  where
-    by : (t : Bool) → (b == x) ≡ t → (t || list_any (λ y. b == y) xs) ≡ true → (list_any (λ y. b == y) xs ≡ true → Contains xs b) → Contains (x ∷ xs) b
-    by true e h rest = (0, omega arith, sym (eqb-true b x e))
-    by false e h rest = let (k, lt, at) = rest h in (suc k, omega arith, at)
 
 same_test : (a b : ℕ) → a ≡ b → (a == b) ≡ true
 same_test a b e = grind (arith, nat_tests)

@@ -18,9 +18,9 @@ use Rattle.stream_match_layouts.specs.Spans.{frame_count}
 use Rattle.collector.specs.declared.missing.Missing.{Missing}
 use Rattle.collector.specs.Missing.{missing_at}
 use Rattle.wait_certs_laws.specs.Walk.{IsWalk, waited_for}
-use Rattle.wait_certs_laws.proofs.Growing.{IsGrown, few_members}
+use Rattle.wait_certs_laws.proofs.Growing.{IsGrown, few_members, contained}
 use Rattle.wait_certs.specs.Searching.{has_member, unmarked}
-use Rattle.wait_certs.proofs.Giving.{contained, producer_is}
+use Rattle.wait_certs.proofs.Giving.{producer_is}
 
 -- ---- whom an activation waits for
 

@@ -1,13 +1,14 @@
 -- What the walk over a whole program answers.
-use Rattle.std.proofs.Common.{◌≡◌, ◌<◌, ◌≤◌, ◌+◌, ℕ, suc, List, [], ◌∷◌, ◌++◌, length, All, Contains, Some, None, refl, ap, sym, ◌∙◌, Bool, true, false, subst, arith, ◌⊎◌, inl, inr, append-nil, append_assoc}
+use Rattle.std.proofs.Common.{◌≡◌, ◌<◌, ◌+◌, ℕ, List, [], ◌∷◌, ◌++◌, length, All, Contains, Some, None, refl, ap, sym, ◌∙◌, Bool, true, false, subst, arith, ◌⊎◌, inl, inr, append-nil, append_assoc}
 use Rattle.std.proofs.lemmas.List.{length-map}
 use Rattle.std.proofs.lemmas.List.Elements.{All-cons, All-nil, All-append, Contains-append_left}
 use Rattle.std.specs.Prelude.{unwrap_or}
-use Rattle.os_ast.specs.Marks.{HasMark, HasPlaces}
+use Rattle.window_check_laws.proofs.NameCounts.{kept_below}
+use Rattle.os_ast.specs.Marks.{HasPlaces}
 use Rattle.os_ast.specs.Notes.Kinds.{Note, mark_of}
 use Rattle.os_ast.specs.Notes.Programs.{program_notes, file}
 use Rattle.os_ast.specs.Rules.{broken}
-use Rattle.os_ast.specs.Spelling.{Symbol, bare, marked, kind_of, symbols, spell}
+use Rattle.os_ast.specs.Spelling.{kind_of, symbols, spell}
 use Rattle.os_ast.specs.Trees as tree
 use Rattle.os_ast.specs.Violations.{violated, violations_at, violations_of, resolutions_of, resolutions, captures_of, captures, captured_by_tasks, has_main, no_main, violations, names, IsNotAbove, earlier, same_place, IsRefusal}
 use Rattle.os_ast.specs.declared.expr.Mark.{Mark}
@@ -16,15 +17,9 @@ use Rattle.window_check_names.specs.Findings.{nothing_found, noted, judged, judg
 use Rattle.window_check_names.specs.declared.found.Found.TheVariants.{Judging}
 use Rattle.window_check_names.specs.declared.found.Judged.{Judged}
 use Rattle.window_check.proofs.Least.{least_of, least_among, least_of-some, judged_all, noted-judging, noted-least, least-first, least-others, least-among, contains-tail}
-use Rattle.window_check_laws.proofs.Placed.{HasKept, AreOf, of-program}
+use Rattle.window_check_laws.proofs.Placed.{AreOf, of-program}
 use Rattle.os_ast.specs.declared.rule.Rule.{Rule}
 use Rattle.os_ast.specs.declared.rule.Rule.TheVariants as rule
-
--- each mark is below the number of tokens
-below-length : (ps : List Symbol) (from n : ℕ) → from + length ps ≤ n → ((i : ℕ) (m : Mark) → HasMark ps i m → m.place ≡ from + i) → HasKept (λ m. m.place < n) ps
-below-length [] from n h f = tt
-below-length (bare k ∷ ps) from n h f = below-length ps (suc from) n (omega (arith, h)) (λ i m is. omega (arith, f (suc i) m is))
-below-length (marked k m ∷ ps) from n h f = (omega (arith, h, f 0 m (k, refl)), below-length ps (suc from) n (omega (arith, h)) (λ i q is. omega (arith, f (suc i) q is)))
 
 violations_at-below : (n : ℕ) (m : Mark) (rs : List Rule) → m.place < n → All (λ v. v.place < n) (violations_at m rs)
 violations_at-below n m [] h = All-nil (λ v. v.place < n)
@@ -39,7 +34,7 @@ all-below : (p : tree.ProgramTree) → HasPlaces p → All (λ v. v.place < leng
 all-below p h =
     violations_of-below (length (spell p)) (program_notes p)
     (of-program (λ m. m.place < length (spell p)) file p []
-    (below-length (symbols p) 0 (length (spell p)) (omega (arith, length-map (symbols p) kind_of)) (λ i m is. omega (arith, h i m is)))).0
+    (kept_below (symbols p) 0 (length (spell p)) (omega (arith, length-map (symbols p) kind_of)) (λ i m is. omega (arith, h i m is)))).0
 
 -- the least of no violation and of some
 least-none : (vs : List Violation) → least_of None vs ≡ None → vs ≡ []

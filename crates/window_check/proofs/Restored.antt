@@ -1,7 +1,7 @@
 -- Behind a block, a `for`, a task and a function what was entered is restored.
 use Rattle.std.proofs.Common.{◌≡◌, ℕ, List, [], ◌∷◌}
 use Rattle.os_ast.specs.declared.program.Param.{Param}
-use Rattle.os_ast.proofs.Kept.{keeps-declarators, keeps-stmt, keeps-stmts}
+use Rattle.os_ast.proofs.Kept.{keeps-declarators, keeps-stmt, keeps-stmts, keeps-then}
 use Rattle.os_ast.specs.Kept.{Keeps, same, more}
 use Rattle.os_ast.specs.Names.{Scope, declare, enter, in_loop, in_unit, leave, after_unit, typed, flagged}
 use Rattle.os_ast.specs.Notes.Clauses.{in_task}
@@ -11,7 +11,7 @@ use Rattle.os_ast.specs.Notes.Statements.{after_stmt, after_stmts}
 use Rattle.os_ast.specs.Trees as tree
 use Rattle.os_ast.specs.declared.names.Owner.{Owner}
 use Rattle.os_ast.specs.declared.names.Owner.TheVariants as owner
-use Rattle.window_check_names.proofs.Restored.{keeps-then, returned_leave, ended_unit}
+use Rattle.window_check_names.proofs.Restored.{returned_leave, ended_unit}
 use Rattle.window_check_names.specs.Scopes.{outer_of, around_of, returned, ended}
 use Rattle.window_check_names.specs.Members.{after_names}
 use Rattle.window_check.specs.Statements.{in_named_task}

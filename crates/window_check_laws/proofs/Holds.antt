@@ -115,7 +115,7 @@ holds-declared p s id e h new stacked bare = record {
     by_case other d false same is = h.known other d is
 
 -- declarators
-taken_entries : (s : Scope) (f : Form) → (taken s f).entries ≡ s.entries
+pub taken_entries : (s : Scope) (f : Form) → (taken s f).entries ≡ s.entries
 taken_entries s form_of.Scalar = refl
 taken_entries s (form_of.Array size) = refl
 taken_entries s form_of.Window = refl

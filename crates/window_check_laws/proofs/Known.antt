@@ -1,6 +1,7 @@
 -- What stands in a lawful program stands where all that is in scope is known.
 use Rattle.std.proofs.Common.{◌≡◌, ◌≤◌, ℕ, zero, suc, ◌+◌, ◌==◌, ◌&&◌, ◌||◌, Bool, true, false, not, if◌then◌else◌, List, [], ◌∷◌, ◌++◌, length, Option, Some, None, ℤ, refl, sym, ap, subst, ◌∙◌, arith, eq-eqb, Contains}
 use Rattle.std.specs.Prelude.{⊤, unwrap_or}
+use Rattle.window_check_laws.proofs.NamePlaces.{or-first}
 use Rattle.os_ast.specs.Unsigned.{is_unsigned}
 use Rattle.os_ast.specs.declared.program.Param.{Param}
 use Rattle.os_ast.specs.Captured.{captured, slots_of}
@@ -149,12 +150,7 @@ module _ (p : tree.ProgramTree) (s : Scope) (ok : IsSoundScope p s) where
       let again = (member_name part).id ∷ before in
       all-stand p (member_notes s before part) (members_notes s again ps) (stand-member before part) (stand-members again ps)
 
--- the size of a local array or of an array of streams
-or-first : (a b : Bool) → (a || b) ≡ false → a ≡ false
-or-first true b h = absurd (cc)
-or-first false b h = refl
-
-not-false : (a : Bool) → not a ≡ false → a ≡ true
+pub not-false : (a : Bool) → not a ≡ false → a ≡ true
 not-false true h = refl
 not-false false h = absurd (cc)
 

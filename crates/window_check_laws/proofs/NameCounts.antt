@@ -94,7 +94,7 @@ few n [] order below = omega arith
 few n (r ∷ rs) order below = omega (arith, few_behind r.place n rs order below.1 below.0)
 
 -- each mark is below the number of symbols
-kept_below : (ps : List Symbol) (from n : ℕ) → from + length ps ≤ n → ((i : ℕ) (m : Mark) → HasMark ps i m → m.place ≡ from + i)
+pub kept_below : (ps : List Symbol) (from n : ℕ) → from + length ps ≤ n → ((i : ℕ) (m : Mark) → HasMark ps i m → m.place ≡ from + i)
     → HasKept (λ m. m.place < n) ps
 kept_below [] from n h f = tt
 kept_below (bare k ∷ ps) from n h f = kept_below ps (suc from) n (omega (arith, h)) (λ i m is. omega (arith, f (suc i) m is))

@@ -182,7 +182,7 @@ at-attribute : (stream : Bool) (rest : List Symbol) → name_places (spelling.at
 at-attribute false rest = refl
 at-attribute true rest = refl
 
-or-first : (a b : Bool) → (a || b) ≡ false → a ≡ false
+pub or-first : (a b : Bool) → (a || b) ≡ false → a ≡ false
 or-first true b h = absurd (cc)
 or-first false b h = refl
 

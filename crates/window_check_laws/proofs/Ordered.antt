@@ -430,7 +430,7 @@ in-program s (i ∷ is) lo rest h =
     both one (in-program (after_item s i) is one.to rest one.after)
 
 -- every symbol has its place
-has-from : (ps : List Symbol) (from : ℕ) → ((i : ℕ) (m : Mark) → HasMark ps i m → m.place ≡ from + i) → HasFrom from ps
+pub has-from : (ps : List Symbol) (from : ℕ) → ((i : ℕ) (m : Mark) → HasMark ps i m → m.place ≡ from + i) → HasFrom from ps
 has-from [] from f = tt
 has-from (bare k ∷ ps) from f = has-from ps (suc from) (λ i m is. omega (arith, f (suc i) m is))
 has-from (marked k m ∷ ps) from f = (omega (arith, f 0 m (k, refl)), has-from ps (suc from) (λ i q is. omega (arith, f (suc i) q is)))

@@ -120,7 +120,7 @@ below-all lo (r ∷ rs) q w b h (suc k, lt, e) =
     let far : r.place < q = below-all r.place rs q w b h.1 (k, omega (arith, lt), e) in
     omega (arith, h.0, far)
 
-in-order-tail : (lo : ℕ) (rs : List Resolved) → IsBelowNext lo rs → InOrder rs
+pub in-order-tail : (lo : ℕ) (rs : List Resolved) → IsBelowNext lo rs → InOrder rs
 in-order-tail lo [] h = tt
 in-order-tail lo (r ∷ rs) h = h.1
 

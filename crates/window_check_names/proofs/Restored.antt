@@ -5,10 +5,6 @@ use Rattle.os_ast.specs.Names.{Scope, leave, after_unit}
 use Rattle.os_ast.specs.declared.names.Entry.{Entry}
 use Rattle.window_check_names.specs.Scopes.{outer_of, around_of, returned, ended}
 
-pub keeps-then : {a b c : List Entry} → Keeps a b → Keeps b c → Keeps a c
-keeps-then h same = h
-keeps-then h (more k) = more (keeps-then h k)
-
 kept_length : {a b : List Entry} → Keeps a b → length a ≤ length b
 kept_length same = omega arith
 kept_length (more k) = let h = kept_length k in omega arith

@@ -1,8 +1,9 @@
 use Rattle.std.proofs.Common.{◌≡◌, List, length, sym, ap, ◌∙◌, arith}
 use Rattle.std.specs.Prelude.{slice_get}
+use Rattle.os_object_validity.proofs.Exploring.{few_units}
 use Rattle.os_code.specs.Codes.{parts_of}
 use Rattle.os_code.specs.declared.site.Site.{Site}
-use Rattle.os_object.proofs.Few.{few_units, few_sites, small_site}
+use Rattle.os_object.proofs.Few.{few_sites, small_site}
 use Rattle.os_object.proofs.encoding.encode.Goals as goal
 
 pub write_units-requires : goal.write_units-requires
