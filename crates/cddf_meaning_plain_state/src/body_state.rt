@@ -60,17 +60,6 @@ fn horizons(claims: &[Claim]) -> u64
     sum
 }
 
-/// A list of `count` zeros.
-pub fn zeros(alloc: Global, count: u32) -> Result<List<i32>, Memory>
-    ensures { IfOk result (λ zeros. zeros ≡ replicate count (pos 0)) }
-{
-    let mut zeros = List::new(alloc);
-    for _i in 0..count {
-        zeros.push(0)?;
-    }
-    Ok(zeros)
-}
-
 /// What a body works on.
 #[derive(Drop)]
 pub struct BodyState {
@@ -400,7 +389,7 @@ impl BodyState {
     ) -> Result<(), Stop>
         ensures { Made result self.new (states.declared id unsigned (variables.Array (replicate size (pos 0))) self.old) }
     {
-        let elements = zeros(alloc, size)?;
+        let elements = List::filled(alloc, 0, size as usize)?;
         self.declare(id, unsigned, Variable::Array(elements))?;
         Ok(())
     }

@@ -23,5 +23,5 @@ mod stop;
 pub mod streams;
 pub mod typing;
 
-pub use body_state::{BodyState, Streams, zeros};
+pub use body_state::{BodyState, Streams};
 pub use stop::Stop;

@@ -7,7 +7,7 @@ ghost use Rattle.cddf_meaning_plain_tasks.specs.Sought.{task_of};
 
 use crate::found_task::FoundTask;
 use cddf_meaning::{TypedName, Variable};
-use cddf_meaning_plain_state::{BodyState, zeros};
+use cddf_meaning_plain_state::BodyState;
 use flow_core_laws::{Activation, Claim};
 use os_io::{List, Memory};
 use std::alloc::Global;
@@ -29,7 +29,7 @@ fn item_lists(alloc: Global, claims: &[Claim], inputs: &[i32]) -> Result<Vec<Lis
     let mut inputs = inputs;
     for claim in claims {
         let item = if claim.write {
-            zeros(alloc, claim.horizon)?
+            List::filled(alloc, 0, claim.horizon as usize)?
         } else {
             let (first, others) = window(inputs, claim.horizon);
             inputs = others;

@@ -132,20 +132,9 @@ fn blank(alloc: Global, captured: usize, claims: usize) -> Result<Activation, Me
 {
     Ok(Activation {
         site: 0,
-        captured: zeros(alloc, captured)?,
+        captured: List::filled(alloc, 0, captured)?,
         claims: List::from_slice(alloc, &[BLANK; ITEMS_LIMIT][..claims])?,
     })
-}
-
-/// A list of `count` zeros.
-fn zeros(alloc: Global, count: usize) -> Result<List<i32>, Memory>
-    ensures { IfOk result (λ numbers. length numbers ≡ count) }
-{
-    let mut numbers = List::with_capacity(alloc, count)?;
-    for _ in 0..count {
-        numbers.push(0)?;
-    }
-    Ok(numbers)
 }
 
 /// Moves activations of a list, from a place on and up to another, behind those of a second one, and answers how many: fewer than

@@ -32,7 +32,7 @@ impl Ticked {
         ensures { IfOk result (λ ticked. ticked ≡ replicate streams 0) }
     {
         Ok(Ticked {
-            amounts: nothing_of(alloc, streams)?,
+            amounts: List::filled(alloc, 0, streams as usize)?,
             any: false,
         })
     }
@@ -60,18 +60,6 @@ impl Ticked {
         self.any = true;
         tick(self.amounts.as_mut_slice(), stream, taken);
     }
-}
-
-/// A zero for each of `streams` streams: nothing is taken of them.
-fn nothing_of(alloc: Global, streams: u32) -> Result<List<u64>, Memory>
-    ensures { IfOk result (λ amounts. amounts ≡ replicate streams 0) }
-{
-    let mut amounts = List::new(alloc);
-    amounts.reserve(streams as usize)?;
-    for _ in 0..streams {
-        amounts.push(0)?;
-    }
-    Ok(amounts)
 }
 
 /// Gives read claims what ticks took from their streams, which then is 0 again.

@@ -33,12 +33,13 @@ impl Streams {
         ensures firsts { IfOk result (λ streams. streams.firsts ≡ replicate count 0) }
     {
         let mut elements = List::with_capacity(alloc, count as usize)?;
-        let mut firsts = List::with_capacity(alloc, count as usize)?;
         for _ in 0..count {
             elements.push(List::new(alloc))?;
-            firsts.push(0)?;
         }
-        Ok(Streams { elements, firsts })
+        Ok(Streams {
+            elements,
+            firsts: List::filled(alloc, 0, count as usize)?,
+        })
     }
 
     /// Streams without elements, each from a position on.

@@ -1,6 +1,6 @@
 //! The streams behind activations that all have ended, from what is kept of these.
 
-ghost use Rattle.std.specs.Prelude.{◌≡◌, ◌-◌, ◌∷◌, ◌++◌, [], None, Some, IfOk, OnOk, length, map, replicate};
+ghost use Rattle.std.specs.Prelude.{◌≡◌, ◌-◌, ◌∷◌, ◌++◌, [], IfOk, OnOk, length, map};
 ghost use Rattle.std.specs.List.{range_with_len};
 ghost use Rattle.stream_match.specs.Kept.{kept_of};
 ghost use Rattle.stream_match_layouts.specs.Layout.{IsLayout};
@@ -91,18 +91,7 @@ fn blank_on(alloc: Global, layout: &Layout, stream: usize) -> Result<List<Option
     let count = cursor_of(layout.cursors.writes.as_slice(), stream).saturating_sub(first_on(
         layout, stream,
     ));
-    blank(alloc, count)
-}
-
-/// A list of `count` elements that aren't there.
-fn blank(alloc: Global, count: u64) -> Result<List<Option<Elem>>, Memory>
-    ensures { IfOk result (λ blank. blank ≡ replicate count None) }
-{
-    let mut blank = List::with_capacity(alloc, count as usize)?;
-    for _ in 0..count {
-        blank.push(None)?;
-    }
-    Ok(blank)
+    List::filled(alloc, None, count as usize)
 }
 
 /// Puts what is kept into its places, the last one first.

@@ -1,3 +1,4 @@
 pub mod Feeding
 pub mod Passing
 pub mod Raising
+pub mod Repeated

@@ -1,7 +1,8 @@
 -- One more frame of an order.
-use Rattle.std.proofs.Common.{◌≡◌, ◌∙◌, ◌⊎◌, inl, inr, ℕ, ◌+◌, ◌*◌, ◌<◌, ◌≤◌, max, List, [], ◌∷◌, Option, Some, None, length, get_or, refl, subst, sym, ap, arith}
+use Rattle.std.proofs.Common.{◌≡◌, ◌∙◌, ◌⊎◌, inl, inr, ℕ, ◌+◌, ◌*◌, ◌<◌, ◌≤◌, max, List, [], ◌∷◌, Option, Some, None, length, get_or, replicate, refl, subst, sym, ap, arith}
 use Rattle.std.specs.Prelude.{IsSome, false, is_some, true}
 use Rattle.std.proofs.lemmas.Bool.{cases_lt}
+use Rattle.std.proofs.lemmas.List.{length-replicate}
 use Rattle.flow_core_laws.specs.IsSound.{IsSound}
 use Rattle.flow_core_laws.specs.Plans.{frame_at, plan_reads}
 use Rattle.flow_core_laws.specs.declared.plan.Plan.{Plan}
@@ -10,6 +11,7 @@ use Rattle.osview_chains.specs.Behind.{Feeds, HasGoneThrough, IsOfChain, Raises,
 use Rattle.osview_chains.specs.Chains.{IsChain, IsChainFrom, IsLongest, chain_steps, steps_at}
 use Rattle.osview_outcomes.specs.Order.{IsInOrder, WaitsFor}
 use Rattle.osview_chains.proofs.Feeding.{fed_if_waits, waits_if_fed}
+use Rattle.osview_chains.proofs.Repeated.{get_or-repeated}
 
 -- the first of a chain ran
 first_ran : (reads : ℕ → List Source) (steps : List (Option ℕ)) (a : ℕ) (rest : List ℕ) → IsChainFrom reads steps a rest → IsSome (get_or steps a None)
@@ -27,16 +29,19 @@ none_ran : (steps : List (Option ℕ)) (a : ℕ) → get_or steps a None ≡ Non
 none_ran steps a is some = let e : false ≡ true = sym (ap is_some is) ∙ some in absurd (cc)
 
 -- before the first turn
-pub at_first : (plan : Plan) (order : List ℕ) (steps : List (Option ℕ)) (behind : List ℕ) → length behind ≡ length plan.frames + 1
-    → ((k : ℕ) → get_or behind k 0 ≡ 0) → HasGoneThrough plan order steps 0 behind 0
-at_first plan order steps behind many zeros = record {
-  as_many = many;
-  small = λ g. let z = zeros g in omega (arith, z);
-  are_of_chains = λ g exists. nothing (zeros g);
+pub at_first : (plan : Plan) (order : List ℕ) (steps : List (Option ℕ)) (behind : List ℕ)
+    → behind ≡ replicate (length plan.frames + 1) 0 → HasGoneThrough plan order steps 0 behind 0
+at_first plan order steps behind zeros = record {
+  as_many = ap length zeros ∙ length-replicate (length plan.frames + 1) 0;
+  small = λ g. let z = zero_at g in omega (arith, z);
+  are_of_chains = λ g exists. nothing (zero_at g);
   is_of_chain = nothing refl;
   counted = λ j rest lt c. absurd (omega (arith, lt));
   passed_on = λ j g rest lt c exists waits. absurd (omega (arith, lt));
 }
+  where
+    zero_at : (g : ℕ) → get_or behind g 0 ≡ 0
+    zero_at g = ap (λ (xs : List ℕ). get_or xs g 0) zeros ∙ get_or-repeated (length plan.frames + 1) g 0
 
 module _ (plan : Plan) (order : List ℕ) (steps : List (Option ℕ)) (turn : ℕ) (behind : List ℕ) (most frame : ℕ)
     (so_far : HasGoneThrough plan order steps turn behind most) (is_next : get_or order turn 0 ≡ frame) where

@@ -9,18 +9,6 @@ use flow_core_laws::{FramePlan, Plan};
 use os_io::{List, Memory};
 use std::alloc::Global;
 
-/// A list of `count` zeros.
-fn zeros(alloc: Global, count: usize) -> Result<List<u128>, Memory>
-    ensures many { IfOk result (λ list. length list ≡ count) }
-    ensures zeros { IfOk result (λ list. (k : ℕ) → slice_index list k ≡ 0) }
-{
-    let mut list = List::with_capacity(alloc, count)?;
-    for _ in 0..count {
-        list.push(0)?;
-    }
-    Ok(list)
-}
-
 /// The steps of a frame, if it ran.
 fn steps_of(steps: &[Option<u64>], frame: u32) -> Option<u64>
     ensures { result ≡ slice_index_or steps.now frame None }
@@ -84,7 +72,7 @@ pub fn longest_chain(
     requires listed { (f : ℕ) → IsSome (slice_index_or steps.now f None) → (k : ℕ) × (k < length order.now) × (slice_index order.now k ≡ f) }
     ensures { IfOk result (IsLongest (plan_reads plan.now) steps.now) }
 {
-    let mut behind = zeros(alloc, plan.frames.len() + 1)?;
+    let mut behind = List::filled(alloc, 0, plan.frames.len() + 1)?;
     let mut most = 0;
     for frame in order {
         if let Some(own) = steps_of(steps, *frame) {

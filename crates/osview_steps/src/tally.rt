@@ -103,18 +103,6 @@ fn count(tallies: &mut List<Tally>, run: TaskRun)
     tallies.as_mut_slice()[run.task as usize] = before.with(run.took);
 }
 
-/// Nothing counted yet, of each of `tasks` tasks.
-fn nothing_yet(alloc: Global, tasks: usize) -> Result<List<Tally>, Memory>
-    ensures many { IfOk result (λ tallies. length tallies ≡ tasks) }
-    ensures nothing { IfOk result (λ tallies. (t : ℕ) → slice_index_or tallies t nothing_counted ≡ nothing_counted) }
-{
-    let mut tallies = List::with_capacity(alloc, tasks)?;
-    for _ in 0..tasks {
-        tallies.push(Tally::nothing())?;
-    }
-    Ok(tallies)
-}
-
 /// What is counted of each of `tasks` tasks, over the activations of a run.
 pub(crate) fn tallies(alloc: Global, tasks: usize, runs: &[TaskRun]) -> Result<List<Tally>, Memory>
     requires few { length runs.now ≤ activations_limit }
@@ -123,7 +111,7 @@ pub(crate) fn tallies(alloc: Global, tasks: usize, runs: &[TaskRun]) -> Result<L
     ensures exact { IfOk result (λ tallies. (t : ℕ) → t < tasks → IsTallyOf t runs.now (slice_index_or tallies t nothing_counted)) }
     ensures small { IfOk result (λ tallies. (t : ℕ) → t < tasks → IsSmall activations_limit (slice_index_or tallies t nothing_counted)) }
 {
-    let mut tallies = nothing_yet(alloc, tasks)?;
+    let mut tallies = List::filled(alloc, Tally::nothing(), tasks)?;
     for run in runs {
         count(&mut tallies, *run);
     }

@@ -1,4 +1,4 @@
-ghost use Rattle.std.specs.Prelude.{◌≡◌, ℕ, ◌<◌, ◌≤◌, ◌↔◌, true, None, Some, All, IfOk, List, if◌then◌else◌, length, replicate, slice_index_or, slice_set};
+ghost use Rattle.std.specs.Prelude.{◌≡◌, ℕ, ◌<◌, ◌≤◌, ◌↔◌, true, None, All, IfOk, List, if◌then◌else◌, length, slice_index_or, slice_set};
 ghost use Rattle.flow_core_laws.specs.declared.activation.Activation.{Activation};
 ghost use Rattle.stream_match_layouts.specs.Layout.{IsLayout, IsLayoutOf};
 ghost use Rattle.stream_match_layouts.specs.Spans.{frame_count};
@@ -31,23 +31,12 @@ fn all_ended_but(alloc: Global, layout: &Layout, members: &[u32]) -> Result<Ends
     requires exist { All (λ a. a < frame_count layout.now) members.now }
     ensures { IfOk result (λ ends. AllEndedBut layout.now members.now ends.ends) }
 {
-    let mut ends = all_done(alloc, layout.frames())?;
+    let mut ends = List::filled(alloc, Some(TaskEnd::Done), layout.frames())?;
     open_all(&mut ends, members);
     Ok(Ends {
         ends,
         output: List::new(alloc),
     })
-}
-
-/// A list of `count` ends, all of them done.
-fn all_done(alloc: Global, count: usize) -> Result<List<Option<TaskEnd>>, Memory>
-    ensures { IfOk result (λ ends. ends ≡ replicate count (Some TaskEnd.Done)) }
-{
-    let mut ends = List::with_capacity(alloc, count)?;
-    for _ in 0..count {
-        ends.push(Some(TaskEnd::Done))?;
-    }
-    Ok(ends)
 }
 
 /// Takes the ends of some activations away.

@@ -1,4 +1,4 @@
-ghost use Rattle.std.specs.Prelude.{◌≡◌, ◌<◌, ◌↔◌, None, true, false, IfOk, IfSome, List, length, option_and_then, replicate, slice_set};
+ghost use Rattle.std.specs.Prelude.{◌≡◌, ◌<◌, ◌↔◌, None, true, IfOk, IfSome, List, length, option_and_then, slice_set};
 ghost use Rattle.flow_core_laws.specs.declared.activation.Activation.{Activation};
 ghost use Rattle.flow_core_laws.specs.Outcome.{has_end_at};
 ghost use Rattle.stream_match_layouts.specs.Layout.{IsLayout, IsLayoutOf};
@@ -41,7 +41,7 @@ fn walk_from(alloc: Global, layout: &Layout, ends: &Ends, frame: u32) -> Result<
     ensures { IfOk result (λ members. (activations : List Activation) → IsLayoutOf layout.now activations
         → IsWalk activations layout.now.input_len ends.now.ends frame members) }
 {
-    let mut marks = no_marks(alloc, layout.frames())?;
+    let mut marks = List::filled(alloc, false, layout.frames())?;
     let mut members = List::new(alloc);
     members.push(frame)?;
     mark(&mut marks, frame);
@@ -52,17 +52,6 @@ fn walk_from(alloc: Global, layout: &Layout, ends: &Ends, frame: u32) -> Result<
         last = next;
     }
     Ok(members)
-}
-
-/// A list of `count` marks, none of which is set.
-fn no_marks(alloc: Global, count: usize) -> Result<List<bool>, Memory>
-    ensures { IfOk result (λ marks. marks ≡ replicate count false) }
-{
-    let mut marks = List::with_capacity(alloc, count)?;
-    for _ in 0..count {
-        marks.push(false)?;
-    }
-    Ok(marks)
 }
 
 /// Sets a mark.

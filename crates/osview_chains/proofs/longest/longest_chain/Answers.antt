@@ -1,4 +1,4 @@
-use Rattle.std.proofs.Common.{◌∙◌, ◌+◌, ℕ, List, ap, arith, get_or, max, refl, subst, sym}
+use Rattle.std.proofs.Common.{◌∙◌, ◌+◌, ℕ, List, ap, arith, get_or, max, replicate, refl, subst, sym}
 use Rattle.osview_chains.specs.Behind.{HasGoneThrough}
 use Rattle.osview_chains.proofs.Passing.{at_first, at_last, none_more, one_more}
 use Rattle.osview_chains.proofs.longest.longest_chain.Goals.{in-Some, in_default}
@@ -6,8 +6,8 @@ use Rattle.osview_chains.proofs.longest.longest_chain.Goals as goal
 
 pub loop-frame-init : goal.loop-frame-init
 loop-frame-init c =
-    let many = c.in_ok-behind.ensures.many in
-    at_first c.args.plan.now c.args.order.now c.args.steps.now c.in_ok-behind.behind (many ∙ ap (λ (n : ℕ). n + 1) c.len.ensures) c.in_ok-behind.ensures.zeros
+    at_first c.args.plan.now c.args.order.now c.args.steps.now c.in_ok-behind.behind
+    (c.in_ok-behind.ensures ∙ ap (λ (n : ℕ). replicate (n + 1) 0) c.len.ensures)
 
 pub loop-frame-preserved : goal.loop-frame-preserved
 loop-frame-preserved c =

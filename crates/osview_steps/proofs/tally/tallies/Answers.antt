@@ -1,12 +1,24 @@
-use Rattle.std.proofs.Common.{◌∙◌, ◌<◌, None, ap, arith, get_or, length, sym}
+use Rattle.std.proofs.Common.{◌≡◌, ◌∙◌, ◌<◌, ℕ, List, None, ap, arith, get_or, length, replicate, subst, sym}
 use Rattle.std.specs.Prelude.{fold}
-use Rattle.std.proofs.lemmas.List.{length-set, take_all}
+use Rattle.std.proofs.lemmas.List.{length-replicate, length-set, take_all}
 use Rattle.std.proofs.lemmas.List.Sums.{fold_more}
-use Rattle.osview_steps.specs.Counting.{nothing_counted}
+use Rattle.osview_steps.specs.Counting.{IsSmall, nothing_counted}
 use Rattle.osview_steps.specs.declared.runs.TaskRun.{TaskRun}
 use Rattle.osview_steps.specs.declared.tally.Tally.{Tally}
+use Rattle.osview_chains.proofs.Repeated.{get_or-repeated}
 use Rattle.osview_steps.proofs.Counting.{at_task, is_tally, small_step, step}
 use Rattle.osview_steps.proofs.tally.tallies.Goals as goal
+
+pub loop-run-init : goal.loop-run-init
+loop-run-init c =
+    let tallies = c.in_ok-tallies.tallies in
+    let are : tallies ≡ replicate c.args.tasks nothing_counted = c.in_ok-tallies.ensures ∙ ap (λ (x : Tally). replicate c.args.tasks x) c.nothing.ensures in
+    let nothing = λ (t : ℕ). ap (λ (xs : List Tally). get_or xs t nothing_counted) are ∙ get_or-repeated c.args.tasks t nothing_counted in
+    record {
+      many = ap length are ∙ length-replicate c.args.tasks nothing_counted;
+      so_far = nothing;
+      small = λ t. subst (λ (x : Tally). IsSmall 0 x) (sym (nothing t)) (record { activations = omega arith; ran = omega arith; sum = omega arith });
+    }
 
 pub loop-run-preserved : goal.loop-run-preserved
 loop-run-preserved c =

@@ -3,7 +3,4 @@ use Rattle.std.specs.Prelude.{replicate}
 use Rattle.epoch_run_in_order.proofs.streams.Streams.new.Given as goal
 
 abbrev pub invariant-loop : goal.invariant-loop
-invariant-loop l = record {
-  elements : l.elements ≡ replicate l.counter [];
-  firsts : l.firsts ≡ replicate l.counter 0;
-}
+invariant-loop l = l.elements ≡ replicate l.counter []
