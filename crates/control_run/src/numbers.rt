@@ -36,12 +36,12 @@ pub(crate) fn is_equal(number: i32, other: i32) -> bool
     number == other
 }
 
-/// The stream that is picked by an index from a first one on: one of `streams` streams, and not the one that is forbidden.
+/// The number of the stream that stands `index` behind a first one; none where there is no such stream, or it is the forbidden one.
 #[inline(always)]
 pub(crate) fn stream_of(streams: u32, forbidden: u32, first: u32, index: i32) -> Option<u32>
     ensures { result ≡ machine.stream_of streams forbidden first index }
 {
-    // One below 0 is, as an unsigned number, more than all streams.
+    // A negative number, taken as an unsigned one, is larger than the number of any stream.
     let stream = (i64::from(first) + i64::from(index)).cast_unsigned();
     if stream < u64::from(streams) && stream != u64::from(forbidden) {
         Some(stream as u32)

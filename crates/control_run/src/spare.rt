@@ -39,7 +39,7 @@ impl Model for Spare {
 }
 
 impl Spare {
-    /// All activations of a list.
+    /// Takes a list of activations that are run no more. None of them is made anew yet.
     pub fn of(activations: List<Activation>) -> Spare
         ensures { result ≡ [] }
     {
@@ -50,7 +50,7 @@ impl Spare {
         }
     }
 
-    /// Forgets those that are made.
+    /// Gives up the activations that are made and not handed over yet: they won't be handed over.
     pub fn forget(&mut self)
         ensures { self.new ≡ [] }
     {

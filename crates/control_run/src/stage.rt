@@ -1,12 +1,12 @@
 use crate::running::Stopped;
 
-/// Where a run by stretches is.
+/// How far a run of `main` by stretches has come.
 #[derive(Clone, Copy, Debug)]
 pub(crate) enum Stage {
-    /// It can go on.
+    /// It stands behind the stretches so far, and more activations may come.
     Standing,
-    /// It has told that no more activations come.
+    /// `main` has ended, and all activations were given.
     Ended(Stopped),
-    /// Memory was wanting in it.
+    /// Memory ran out in a stretch: the run gives nothing more.
     GivenUp,
 }

@@ -18,7 +18,7 @@ abbrev pub BodiesServe : Type 0
 BodiesServe = (code : Parts) (activations : List Activation) (input : List ℕ) (budget : ℕ) (plan : Plan) → IsValid code → All (Fits code) activations
     → budget ≤ budget_limit → StandsFor plan activations input → Serves plan (frame_outcome code activations budget) (TakesFrame code activations budget)
 
--- they serve all activations of a run in parts
+-- such bodies serve the activations themselves, as a run in epochs asks
 abbrev pub BodiesServeAll : Type 0
 BodiesServeAll = (code : Parts) (activations : List Activation) (budget : ℕ) → IsValid code → All (Fits code) activations → budget ≤ budget_limit
     → ServesAll activations (frame_outcome code activations budget) (TakesFrame code activations budget)

@@ -90,7 +90,7 @@ LookKeepsGood =
     (known : Known) (state : CoreState) (seat : ℕ) (view : View) → IsFit known → IsGood known state → CanLook known state seat view
     → IsGood known (after_look known state seat view)
 
--- so does every step, and every state that steps reach is good
+-- every step keeps a state good, and every state that steps reach is good
 abbrev pub StepsKeepGood : Type 0
 StepsKeepGood = (known : Known) (old new : CoreState) → IsFit known → IsGood known old → Step known old new → IsGood known new
 
@@ -135,7 +135,7 @@ RanAreFrames =
     (known : Known) (state : CoreState) (seat : ℕ) (view : View) → IsGood known state → slice_get state.seats seat ≡ Some view
     → All (λ f. f < length known.plan.frames) view.ran
 
--- it has at most as many entries as the plan has frames, and so have the ran lists of all seats together
+-- the ran list of a seat has at most as many entries as the plan has frames, and so have those of all seats together
 abbrev pub RanAreFew : Type 0
 RanAreFew =
     (known : Known) (state : CoreState) (seat : ℕ) (view : View) → IsGood known state → slice_get state.seats seat ≡ Some view

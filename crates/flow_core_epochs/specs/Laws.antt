@@ -42,7 +42,7 @@ AddsUp =
     OfEpochs (λ before new input body readers frames kept plan places. put_over (stream_meaning before input body) frames (epoch_meaning plan frames body)
     (length (before ++ new)) ≡ stream_meaning (before ++ new) input body)
 
--- so a frame has the outcome that the plan gives it
+-- in the meaning of all activations so far a frame of the epoch has the outcome that the epoch's plan gives it
 abbrev pub FramesEnd : Type 0
 FramesEnd =
     OfEpochs (λ before new input body readers frames kept plan places. (f a : ℕ) → slice_get frames f ≡ Some a

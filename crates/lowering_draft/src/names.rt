@@ -168,7 +168,7 @@ pub fn first_of(what: What) -> u32
     }
 }
 
-/// How many streams there are.
+/// How many streams a name stands for; 0 where it stands for something else.
 pub fn count_of(what: What) -> u32
     ensures { result ≡ count_of what }
 {

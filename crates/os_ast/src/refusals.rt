@@ -74,21 +74,21 @@ pub fn names_of_capturing()
     ensures streams { streams capturing.program ≡ 2 }
 {}
 
-/// Two tasks with a stream between them.
+/// What the names mean in a program of two tasks with a stream between them.
 pub fn names_of_stages()
     ensures lawful { violations stages.program ≡ [] }
     ensures meanings { names stages.program ≡ stages.meanings }
     ensures streams { streams stages.program ≡ 3 }
 {}
 
-/// An array of three streams.
+/// What the names mean in a program with an array of three streams.
 pub fn names_of_spreading()
     ensures lawful { violations spreading.program ≡ [] }
     ensures meanings { names spreading.program ≡ spreading.meanings }
     ensures streams { streams spreading.program ≡ 5 }
 {}
 
-/// A program with a window of three elements that moves by one.
+/// What the names mean in a program with a window of three elements that moves by one.
 pub fn names_of_smoothing()
     ensures lawful { violations smooth.program ≡ [] }
     ensures meanings { names smooth.program ≡ smooth_names.meanings }

@@ -7,7 +7,7 @@ pub record RoomState (T : Type 0) : Type 0 where
   pub items : List T
   pub spare : ℕ
 
--- it is stored as the pair of both
+-- what is stored of a room: the pair of its items and of how many more it can take
 abbrev pub coded_room : {T : Type 0} → Coded T → Coded (RoomState T)
 coded_room {T} code = code_by (List T × ℕ) (coded× (coded_list code) coded_ℕ) (λ r. (r.items, r.spare)) (λ p. record { items = p.0; spare = p.1 }) (λ _. refl)
 

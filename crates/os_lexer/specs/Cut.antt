@@ -47,19 +47,19 @@ abbrev pub does : List ℕ → List Token → ℕ → Form → ℕ → Effect
 does text tokens at form n =
     let slice = take n (drop at text) in effect (mode_at text tokens at) (name_number text tokens slice) form slice
 
--- it is skipped
+-- the lexeme is skipped
 abbrev pub IsSkip : Effect → Type 0
 IsSkip (Skip mode) = Unit {0}
 IsSkip (Give kind mode) = ⊥
 IsSkip (Fail wrong) = ⊥
 
--- it is a token of this kind
+-- the lexeme is a token of this kind
 abbrev pub IsGive : Kind → Effect → Type 0
 IsGive k (Skip mode) = ⊥
 IsGive k (Give kind mode) = kind ≡ k
 IsGive k (Fail wrong) = ⊥
 
--- it is this fault
+-- the lexeme is this fault
 abbrev pub IsFail : Fault → Effect → Type 0
 IsFail f (Skip mode) = ⊥
 IsFail f (Give kind mode) = ⊥

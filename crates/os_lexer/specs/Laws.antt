@@ -25,7 +25,7 @@ CoverOrFault =
     (text : List ℕ) →
     ((tokens : List Token) × IsTokenCover text tokens) ⊎ ((code : ℕ) × (line : ℕ) × IsFirstFault text code line)
 
--- and never both
+-- no text has both a cover and a first fault
 abbrev pub NeverBoth : Type 0
 NeverBoth =
     (text : List ℕ) (tokens : List Token) (code line : ℕ) →
@@ -62,7 +62,7 @@ HasFittingNumber (kind.Punct mark) = Unit {0}
 HasFittingNumber kind.PragmaStart = Unit {0}
 HasFittingNumber kind.PragmaEnd = Unit {0}
 
--- this holds of each token
+-- each number in the cover of a text has a value of its type
 abbrev pub NumbersFit : Type 0
 NumbersFit =
     (text : List ℕ) (tokens : List Token) → IsTokenCover text tokens → All (λ token. HasFittingNumber token.kind) tokens

@@ -9,11 +9,11 @@ const SERVE: &str = "serve";
 /// What words ask for.
 #[derive(Clone, Copy, Debug)]
 pub(crate) enum Asked<'w> {
-    /// Something else than a server.
+    /// No server: the first word isn't `serve`.
     Otherwise,
-    /// A server, but not of one file.
+    /// A server, but `serve` isn't followed by one word alone.
     Wrongly,
-    /// That the jobs of the file with this name are served.
+    /// A server of the jobs in the file with this name.
     Jobs(&'w str),
 }
 

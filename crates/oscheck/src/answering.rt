@@ -38,7 +38,7 @@ struct WordsSoFar {
     worst: Judged,
 }
 
-/// Where help or the version was told, nothing else is done.
+/// Whether the next word is looked at: not once help or the version was told.
 #[derive(Clone, Copy, PartialEq, Eq)]
 enum Next {
     GoOn,

@@ -226,7 +226,8 @@ fn closing(alloc: Global, front: &[Token]) -> Result<Vec<u8>, Memory> {
     Ok(more)
 }
 
-/// The token that is put behind the front of a program, or none behind a whole one and behind as many as there may be.
+/// The token that is put next behind the front of a program. There is none where the front is a whole program, or has as many tokens
+/// as a text may have bytes.
 fn next(alloc: Global, front: &[Token]) -> Result<Option<Closer>, Memory> {
     if front.len() >= TEXT_LIMIT || is_whole(alloc, front)? {
         return Ok(None);

@@ -13,7 +13,8 @@ use oscheck_sentences::{Word, missing, word_of, write_choice};
 use std::alloc::Global;
 use std::io;
 
-/// What could stand at a place, or what is missing there that C has.
+/// What is told beside the token that was found: the words that could stand in its place, or, where C has such a token there and this
+/// language hasn't, a sentence on that.
 #[derive(Drop)]
 enum Wanted {
     Expected(Vec<Word<'static>>),
@@ -76,7 +77,7 @@ fn write_missing(out: &mut impl io::Write, sentence: &str, found: Word<'_>) -> i
     write!(out, ": {sentence}")
 }
 
-/// Where the tokens of a text stop.
+/// What is told of the place where the tokens of a text stop being the front of any program.
 fn stop_of<'a>(alloc: Global, text: &'a [u8], tokens: &[Token]) -> Result<SyntaxError<'a>, Memory>
     requires { length tokens.now ≤ text_limit }
 {
@@ -95,7 +96,7 @@ fn stop_of<'a>(alloc: Global, text: &'a [u8], tokens: &[Token]) -> Result<Syntax
     }
 }
 
-/// What is missing at a place that C has there, or what could stand there.
+/// What is told of a place beside the token that was found there.
 fn wanted_at(
     alloc: Global,
     tokens: &[Token],
@@ -108,7 +109,7 @@ fn wanted_at(
     }
 }
 
-/// What is missing at a place that C has there.
+/// The sentence on the token at a place, where C has such a token there and this language hasn't.
 fn missing_at(tokens: &[Token], place: usize, found: Word<'_>) -> Option<&'static str> {
     let token = tokens.get(place)?;
     let front = tokens.get(..place)?;
@@ -130,7 +131,7 @@ fn expected_at(
     }
 }
 
-/// What could stand behind the open part of a front. Behind as many tokens as there may be nothing can.
+/// What could stand behind the open part of a front: nothing, where the part has as many tokens as a text may have bytes.
 fn expected_behind(alloc: Global, open: &[Token]) -> Result<Vec<Word<'static>>, Memory> {
     if open.len() < TEXT_LIMIT {
         expected(alloc, open)
@@ -147,7 +148,7 @@ fn found_at<'a>(text: &'a [u8], tokens: &[Token], place: usize) -> Word<'a> {
     }
 }
 
-/// The bytes of the token at a place, or else those behind the last one in its line, which are none.
+/// The bytes of the token at a place. Where no token stands there, it is the empty spot behind the last one.
 fn spot_at(tokens: &[Token], place: usize, line: u32) -> Spot {
     match tokens.get(place) {
         Some(token) => Spot::of_token(*token),

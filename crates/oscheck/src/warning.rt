@@ -35,7 +35,7 @@ enum Warning {
     BareTask,
     /// It is a name that is declared, and nothing uses it.
     LoneName,
-    /// It declares a stream, with which no task does what one does with streams.
+    /// It declares a stream that no task reads, or that no task writes.
     Stream(Lack),
     /// It is a scalar that a task changes, and nothing in the task reads it after that.
     DeadStore,
@@ -46,11 +46,11 @@ enum Warning {
 /// What tasks don't do with a stream.
 #[derive(Clone, Copy)]
 enum Lack {
-    /// None reads it.
+    /// No task reads it.
     Reads,
-    /// None writes it.
+    /// No task writes it.
     Writes,
-    /// None reads it or writes it.
+    /// No task reads it, and none writes it.
     Both,
 }
 

@@ -53,7 +53,7 @@ pub record IsWrongBurst (list : List Extent) (means : ℕ → Option What) (plac
   pub fits : size ≤ horizon_limit
   pub differs : burst.amount ≢ amount.Number size
 
--- it is marked where there is such a burst
+-- the marked places are those where a burst is wrong
 pub record AreWrongBursts (list : List Extent) (means : ℕ → Option What) (places : Places) : Type 0 where
   pub sound : (place : ℕ) → has places place ≡ true → IsWrongBurst list means place
   pub complete : (place : ℕ) → IsWrongBurst list means place → has places place ≡ true

@@ -30,7 +30,7 @@ pub record IsDeadStore (list : List Access) (means : ℕ → Option What) (place
   pub is : means place ≡ Some (what.Scalar slot)
   pub unread : (other : ℕ) → IsReadAt list means change.site.task slot other → (index < other) ⊎ (change.site.looped ≡ true) → ⊥
 
--- it is marked where there is such a change
+-- the marked places are those of dead stores
 pub record AreDeadStores (list : List Access) (means : ℕ → Option What) (places : Places) : Type 0 where
   pub sound : (place : ℕ) → has places place ≡ true → IsDeadStore list means place
   pub complete : (place : ℕ) → IsDeadStore list means place → has places place ≡ true

@@ -7,12 +7,12 @@ pub(crate) struct Site {
     pub(crate) looped: bool,
 }
 
-/// What a scalar is named for.
+/// What an access does with a scalar.
 #[derive(Clone, Copy)]
 pub(crate) enum Effect {
-    /// Its value.
+    /// It uses the value.
     Read,
-    /// A change of it. One that adds to the old value, as `x += 1` and `x++`, is no read.
+    /// It sets the scalar. A change that uses the old value, as `x += 1` and `x++`, is not taken for a read.
     Change,
 }
 
@@ -48,7 +48,7 @@ impl Site {
         }
     }
 
-    /// The same site in a loop.
+    /// The same site with a loop round it.
     pub(crate) fn in_loop(self) -> Site
         ensures { result ≡ in_loop self }
     {

@@ -1,4 +1,4 @@
-//! Bursts that trap.
+//! Bursts of output items that are not the size of their window: such a task traps wherever it is created.
 
 ghost use Rattle.std.specs.Prelude.{◌≡◌, length, IfOk};
 ghost use Rattle.os_ast.specs.Views.{program_tree};
@@ -45,7 +45,7 @@ impl Sizes {
         Ok(())
     }
 
-    /// One more, where it is the size of a window.
+    /// Notes the size of the window in a slot; without a slot it notes nothing.
     fn add_if(&mut self, slot: Option<u32>, amount: Amount) -> Result<(), Memory>
         ensures { OnOk result ((other : ℕ) → sized self.new other ≡ (if is_slot slot other then Some amount else sized self.old other)) }
     {
@@ -55,7 +55,7 @@ impl Sizes {
         }
     }
 
-    /// The size of a window.
+    /// The size that was noted of the window in a slot.
     fn of(&self, slot: u32) -> Option<Amount>
         ensures { result ≡ sized self.now slot }
     {

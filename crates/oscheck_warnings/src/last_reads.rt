@@ -48,7 +48,7 @@ impl LastReads {
         }
     }
 
-    /// One more access that reads a scalar.
+    /// Notes that the access with this index, the last one so far, reads a scalar.
     fn add(&mut self, cell: Cell, index: usize) -> Result<(), Memory>
         ensures { OnOk result ((task slot : ℕ) → last_read self.new task slot
             ≡ (if is_cell (Some cell) task slot then Some index else last_read self.old task slot)) }
@@ -57,7 +57,7 @@ impl LastReads {
         Ok(())
     }
 
-    /// One more access, which reads this scalar or none.
+    /// Notes the same of an access that may read no scalar: then it notes nothing.
     fn add_if(&mut self, cell: Option<Cell>, index: usize) -> Result<(), Memory>
         ensures { OnOk result ((task slot : ℕ) → last_read self.new task slot
             ≡ (if is_cell cell task slot then Some index else last_read self.old task slot)) }
@@ -68,7 +68,7 @@ impl LastReads {
         }
     }
 
-    /// Where a scalar is read last.
+    /// The index of the last access that reads a scalar; none where nothing reads it.
     pub(crate) fn of(&self, cell: Cell) -> Option<usize>
         ensures { result ≡ last_read self.now cell.task cell.slot }
     {

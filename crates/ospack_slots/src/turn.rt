@@ -1,8 +1,8 @@
-/// What a turn came to, of those that read a slot or a piece and write what becomes of it.
+/// What came of a turn: each reads one slot or piece of the file, and writes what is made of it.
 #[derive(Clone, Copy, Debug)]
 pub(crate) enum Turn {
-    /// One was read, and all was written.
+    /// The slot or piece was read, and all that is made of it was written.
     Done,
-    /// The file has no more.
+    /// The file has ended: nothing was left to read.
     End,
 }

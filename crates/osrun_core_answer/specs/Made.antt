@@ -86,7 +86,7 @@ pub record IsCompiledOf {F : Type 0} (view : FilesView F) (old new : F) (job : C
   pub is_code : IsCodeOf code program
   pub is_object : Spells object code
 
--- one of the files is the cause, or memory was wanted
+-- nothing is made: one of the files is the cause, or memory ran out
 abbrev pub IsUnmadeOf : {F : Type 0} → FilesView F → F → F → List JobFile → Refusal → Type 0
 IsUnmadeOf view old new files refusal =
     IsCauseOf IsUsable IsUnusable view old new files refusal

@@ -16,7 +16,7 @@ pub struct Job<'w> {
     pub program: &'w str,
     /// The name of the input's file.
     pub input: &'w str,
-    /// With how many workers and turns.
+    /// How many workers make the run, and how many turns it may take.
     pub terms: Terms,
 }
 
@@ -45,7 +45,7 @@ pub struct ExecJob<'w> {
     pub object: &'w str,
     /// The name of the input's file.
     pub input: &'w str,
-    /// With how many workers and turns.
+    /// How many workers make the run, and how many turns it may take.
     pub terms: Terms,
 }
 
@@ -59,7 +59,7 @@ pub struct ExplainJob<'w> {
     /// The number of the activation, in the order in which the control program creates them, from 0 on and up to 65,535. There may
     /// be no such activation.
     pub activation: u32,
-    /// With how many workers and turns.
+    /// How many workers make the run, and how many turns it may take.
     pub terms: Terms,
 }
 

@@ -37,10 +37,6 @@ kept_halted s last halt _ (KeepsGoing shape) e = cc
 kept_halted s last halt _ KeepsStuck e = cc
 kept_halted s last halt _ (KeepsHalted {t = t} shape codes) e = let same : t ≡ last = cc in ap (λ (u : MachineState). shape_of u.windows) (sym same) ∙ shape
 
-record SoundAt (code : Parts) (job : Job) (t : MachineState) : Type 0 where
-  pub left : ℕ
-  pub sound : IsSound code job left t
-
 run_keeps : (code : Parts) → IsValid code → (job : Job) → job.is_main ≡ false → (left : ℕ) (s last : MachineState) (halt : Halt) (n : ℕ) → IsSound code job left s → Runs code s halt last n
     → shape_of last.windows ≡ shape_of s.windows
 run_keeps code valid job no_main left s last halt _ sound (Halts is) = kept_halted s last halt (step code s) (keeps-step code valid job left s no_main sound) is

@@ -50,13 +50,13 @@ IsUnusable Object bytes code None = IsNoObject bytes code
 IsUnusable Trace bytes code (Some line) = (code ≡ no_trace) × IsFirstWrongLine bytes line
 IsUnusable Trace bytes code None = ⊥
 
--- the bytes of such a file are refused so
+-- this refusal is a right one for the bytes of such a file
 abbrev pub IsRefusalAs : Subject → List ℕ → Refusal → Type 0
 IsRefusalAs subject bytes (refusals.Refused code line) = IsUnusable subject bytes code line
 IsRefusalAs _ bytes (refusals.TooLong other) = ⊥
 IsRefusalAs _ bytes (refusals.ReadFault other) = ⊥
 IsRefusalAs _ bytes refusals.Memory = ⊥
 
--- a text is refused so
+-- this refusal is a right one for the text of a program
 abbrev pub IsRefusalOf : List ℕ → Refusal → Type 0
 IsRefusalOf text refusal = IsRefusalAs Program text refusal

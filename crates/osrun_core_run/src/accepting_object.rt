@@ -14,7 +14,7 @@ use os_object::laws::one_reading;
 use osrun_core_jobs::Refusal;
 use std::alloc::Global;
 
-/// The code of an object.
+/// Reads the bytes of an object's file: the code that they spell, or why they are refused.
 pub fn accept_object(alloc: Global, bytes: &[u8]) -> Result<Code, Refusal>
     requires { length bytes.now ≤ limit_of ObjectFile }
     ensures object { IfOk result (λ code. IsObjectOf bytes.now (parts_of code)) }

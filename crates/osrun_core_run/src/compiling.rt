@@ -9,7 +9,7 @@ use os_io::Memory;
 use std::alloc::Global;
 use window_check::Checked;
 
-/// A code of a program.
+/// Compiles a checked program to a code that means the same.
 pub fn compile(alloc: Global, checked: &Checked) -> Result<Code, Memory>
     ensures { IfOk result (λ code. IsCodeOf (parts_of code) (program_tree checked.now.program)) }
 {

@@ -57,7 +57,7 @@ arrow u alike =
     if u.write then writing_text u ++ horizon_text alike ++ codes "\"];\n"
     else reading_text u ++ horizon_text alike ++ codes ", burst " ++ burst_text alike ++ codes "\"];\n"
 
--- one of some: it gets the arrow where none before it is like it
+-- the arrow of all items that are like this one, where it is the first of these; else no text
 abbrev pub arrow_of : (all : List Use) → (place : ℕ) → Use → List ℕ
 arrow_of all place u = if list_any (is_alike u) (take place all) then [] else arrow u (filter (is_alike u) all)
 

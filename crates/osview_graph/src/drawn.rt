@@ -11,7 +11,7 @@ use stream_match_layouts::Layout;
 pub struct Drawn<'a> {
     /// The text of its program.
     pub text: &'a [u8],
-    /// Where the names of the streams stand in it.
+    /// The names of its streams, by where they stand in the text.
     pub names: &'a [StreamName],
     /// The line of each task's pragma.
     pub lines: &'a [u32],
@@ -19,7 +19,7 @@ pub struct Drawn<'a> {
     pub streams: u32,
     /// The activations that `main` created.
     pub activations: &'a [Activation],
-    /// Their positions.
+    /// Which positions of the streams they read and write.
     pub layout: &'a Layout,
     /// How each of them ended; none where it is starved.
     pub ends: &'a [Option<TaskEnd>],
@@ -28,9 +28,9 @@ pub struct Drawn<'a> {
 /// Which graph of a run is drawn.
 #[derive(Clone, Copy, Debug)]
 pub enum GraphChoice {
-    /// That of its tasks and streams.
+    /// The graph of its tasks and streams.
     Streams,
-    /// That of its activations from a number on, to the one before another; at most all that there are.
+    /// The graph of its activations from number `first` on to the one before `end`, as far as there are any.
     Activations { first: u64, end: u64 },
 }
 

@@ -5,16 +5,16 @@ ghost use Rattle.osview_graph.specs.DrawnRun.{end_word, has_run};
 use collector::has_done;
 use flow_core_laws::TaskEnd;
 
-/// How activations end that are counted.
+/// Which activations are counted, by how they ended.
 #[derive(Clone, Copy, Debug)]
 pub(crate) enum Ending {
-    /// In any way, starved ones included.
+    /// All of them, starved ones included.
     Any,
     Done,
     Trapped,
     OverBudget,
     Poisoned,
-    /// With no end, since an input of theirs never comes.
+    /// Those that have no end, since an element that they read never comes.
     Starved,
 }
 

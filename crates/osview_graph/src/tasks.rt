@@ -12,7 +12,7 @@ use os_io::Memory;
 use osview_text::Text;
 use std::alloc::Global;
 
-/// One, or nothing.
+/// What an activation adds to a count: 1 where it is counted, and else 0.
 fn one_if(counted: bool) -> u64
     ensures { result ≡ (if counted then 1 else 0) }
 {

@@ -20,11 +20,11 @@ abbrev pub with_line : Option Two → ℕ → Two
 with_line None line = record { first = line; second = None }
 with_line (Some two) line = record { first = two.first; second = second_line two line }
 
--- the lines of one stream, where one more claim reads another or the same
+-- the lines of stream `other`, once one more claim reads `stream` for a task in `line`
 abbrev pub with_line_at : (stream line other : ℕ) → Option Two → Option Two
 with_line_at stream line other two = if stream == other then Some (with_line two line) else two
 
--- one of two lines that isn't this one
+-- the first of two lines that is another one than this
 abbrev pub other_line : Option Two → ℕ → Option ℕ
 other_line None at = None
 other_line (Some two) at = if two.first == at then two.second else Some two.first
@@ -36,7 +36,7 @@ found readers stream at = other_line (lines_of readers stream) at
 abbrev pub line_if_reads : (lines : List ℕ) → (stream at : ℕ) → Span → Option ℕ
 line_if_reads lines stream at span = if is_other_reader lines stream at span then Some (slice_index_or lines span.frame 0) else None
 
--- it is found what the claims say
+-- the line that is found of another reader is the one that the claims have
 abbrev pub AreReaders : List Span → (lines : List ℕ) → Readers → Type 0
 AreReaders spans lines readers = (stream at : ℕ) → found readers stream at ≡ other_reader spans lines stream at
 

@@ -25,7 +25,7 @@ pub(crate) struct Readers {
     lines: BTreeMap<u32, Two>,
 }
 
-/// The lines behind those of some tasks, where the task of one more claim stands in a line.
+/// The lines of a stream's readers, once one more claim reads it for a task in `line`.
 fn with_line(two: Option<Two>, line: u32) -> Two
     ensures { result ≡ with_line two line }
 {
@@ -52,7 +52,7 @@ fn second_line(two: Two, line: u32) -> Option<u32>
     }
 }
 
-/// One of two lines that isn't this one.
+/// The first of two lines that is another one than this.
 fn other_line(two: Option<Two>, at: u32) -> Option<u32>
     ensures { result ≡ other_line two at }
 {

@@ -22,9 +22,9 @@ use stream_match_layouts::{Layout, Span};
 pub struct Shown<'a> {
     /// The positions of its activations.
     pub layout: &'a Layout,
-    /// What they came to.
+    /// What each activation read and wrote, and how it ended.
     pub outcomes: &'a Outcomes,
-    /// What it ran over.
+    /// The bytes of the input that the program ran over.
     pub input: &'a [u8],
     /// The line of each activation's task.
     pub lines: &'a [u32],

@@ -21,11 +21,11 @@ output_reach layout = record { stream = 1; first = 0; count = slice_index layout
 abbrev pub whole_weave : Layout → List ℕ → Weave
 whole_weave layout input = weave_over layout input (all_frames layout) [] (output_reach layout ∷ [])
 
--- such a plan is sound
+-- the plan of all activations, whose sink takes the output, is sound
 abbrev pub WholePlansAreSound : Type 0
 WholePlansAreSound = (layout : Layout) (input : List ℕ) (plan : Plan) → IsLayout layout → IsWoven layout (whole_weave layout input) plan → IsSound plan
 
--- and stands for the activations and the input
+-- such a plan stands for the activations and the input
 abbrev pub WholePlansStand : Type 0
 WholePlansStand =
     (layout : Layout) (input : List ℕ) (plan : Plan) (activations : List Activation) → IsLayout layout → IsLayoutOf layout activations

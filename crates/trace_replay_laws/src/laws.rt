@@ -9,8 +9,8 @@ pub fn lawful_is_reached<S, V, O>()
     ensures { (element : List (Option O) → S → Option V) → OfLists element (LawfulIsReached element) }
 {}
 
-/// Where no number stands twice in lists, heads that are run as long as one is enabled come to one state, whatever heads are
-/// chosen, and take as many numbers from each list.
+/// Where no number stands twice in the lists, it doesn't matter which of the enabled heads is run next: as soon as none is enabled, the
+/// state is the same, and as many numbers are taken from each list.
 pub fn choices_agree<S, V, O>()
     ensures { (element : List (Option O) → S → Option V) → IsKept element → OfLists element (ChoicesAgree element) }
 {}

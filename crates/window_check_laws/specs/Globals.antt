@@ -12,7 +12,7 @@ count_functions [] = 0
 count_functions (tree.Constant c ∷ is) = count_functions is
 count_functions (tree.Function f ∷ is) = suc (count_functions is)
 
--- none of the names is another one's, or one of some
+-- no two items have the same name, and none has one of the names `before`
 abbrev pub AreApart : List ℕ → List tree.ItemTree → Type 0
 AreApart before [] = ⊤
 AreApart before (i ∷ is) = (is_in (global_id i) before ≡ false) × AreApart (global_id i ∷ before) is

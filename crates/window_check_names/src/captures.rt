@@ -30,7 +30,7 @@ impl Model for Captured {
 }
 
 impl Captured {
-    /// No scalars.
+    /// The scalars before any is captured.
     pub fn new(alloc: Global) -> Captured
         ensures { result ≡ [] }
     {
@@ -39,7 +39,7 @@ impl Captured {
         }
     }
 
-    /// How many they are.
+    /// How many scalars are captured.
     pub fn len(&self) -> usize
         ensures { result ≡ length self.now }
     {
@@ -53,7 +53,7 @@ impl Captured {
         Ok(())
     }
 
-    /// One more, where the name is declared as a scalar of the control program.
+    /// Adds what a name is declared as, where that is a scalar of the control program.
     pub(crate) fn add(&mut self, entity: Option<Entity>) -> Result<(), Memory>
         ensures { OnOk result (self.new ≡ with_slots (control_slots entity) self.old) }
     {
@@ -102,7 +102,7 @@ impl Model for Slots {
 }
 
 impl Slots {
-    /// No slots, as a task has them that captures nothing.
+    /// The slots of a task that captures nothing.
     pub fn none(alloc: Global) -> Slots
         ensures { result ≡ [] }
     {
@@ -120,7 +120,7 @@ impl Slots {
         Slots { slots }
     }
 
-    /// How many they are.
+    /// How many scalars are captured.
     pub fn len(&self) -> usize
         ensures { result ≡ length self.now }
     {

@@ -28,7 +28,7 @@ size_value s _ = None
 abbrev pub size_told : Scope → Option tree.IndexTree → Option ℤ
 size_told s i = option_and_then (λ (i : tree.IndexTree). size_value s i.value) i
 
--- as a number of slots or streams, where it is a size
+-- a value as a number of slots or streams; none where it is no size
 abbrev pub within_limit : ℤ → Option ℕ
 within_limit (pos n) = if is_size (Some (pos n)) then Some n else None
 within_limit (negsuc n) = None
