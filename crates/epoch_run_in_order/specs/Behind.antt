@@ -43,4 +43,4 @@ pub record AreBehind (layout : Layout) (output : List (Option Elem)) (kept : Lis
   pub elements_are : (stream : ℕ) → 2 ≤ stream → stream < length streams.elements
       → slice_index_or streams.elements stream []
       ≡ map (value_kept kept)
-          (places_from stream (slice_index streams.firsts stream) (slice_index layout.cursors.writes stream - slice_index streams.firsts stream))
+      (places_from stream (slice_index streams.firsts stream) (slice_index layout.cursors.writes stream - slice_index streams.firsts stream))

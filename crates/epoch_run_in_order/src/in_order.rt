@@ -101,7 +101,8 @@ impl InOrder {
             → length layout.now.writers ≡ length self.old.streams.elements
             → StandsBehind code all given input budget self.old → StandsBehind code all given input budget self.new) }
     {
-        self.streams.give_up(alloc, layout.cursors.reads.as_slice())?;
+        self.streams
+            .give_up(alloc, layout.cursors.reads.as_slice())?;
         Ok(())
     }
 }

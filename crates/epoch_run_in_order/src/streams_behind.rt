@@ -50,7 +50,10 @@ fn first_on(layout: &Layout, stream: usize) -> u64
     if stream < 2 {
         return 0;
     }
-    cursor_of(layout.cursors.reads.as_slice(), stream).min(cursor_of(layout.cursors.writes.as_slice(), stream))
+    cursor_of(layout.cursors.reads.as_slice(), stream).min(cursor_of(
+        layout.cursors.writes.as_slice(),
+        stream,
+    ))
 }
 
 /// The elements of the streams where none is kept yet: of the output all.
