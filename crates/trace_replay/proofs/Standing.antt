@@ -18,7 +18,7 @@ use Rattle.flow_core.specs.declared.board.Board.{Board}
 use Rattle.flow_core.specs.Waits.{OpensMore}
 use Rattle.flow_core.specs.Counted.{IsCounted}
 use Rattle.flow_core.specs.Shows.{Shows, end_at}
-use Rattle.flow_core.proofs.Running.{IsRun-opening, no_end}
+use Rattle.flow_core.proofs.Running.{IsRun-opening, no_end as no_end_yet}
 use Rattle.trace_replay_laws.specs.Orders.{after, after_all, IsLawful}
 use Rattle.trace_replay_laws.specs.Lists.{number_in, HaveNoRepeat, Taken, frames_of, taken_from, IsOrderOfHeads, head_after}
 use Rattle.trace_replay_laws.specs.Answers.{plan_after, AreFrames}
@@ -37,7 +37,7 @@ stands_first plan outcome lists places board counted cells ends len zeros = reco
   at_places = λ k lt. zeros k (omega (arith, len, lt));
   counted = counted;
   shows = (IsRun-opening plan (plan_meaning plan outcome) board counted cells ends).shows;
-  ended = λ f. ap is_some (ap (λ (xs : List (Option TaskEnd)). end_at xs f) ends ∙ no_end plan.frames f) ∙ sym (ap is_some (none_at_start {O = Outcome} (length plan.frames) f));
+  ended = λ f. ap is_some (ap (λ (xs : List (Option TaskEnd)). end_at xs f) ends ∙ no_end_yet plan.frames f) ∙ sym (ap is_some (none_at_start {O = Outcome} (length plan.frames) f));
 }
 
 -- a head behind an order isn't one of its numbers
