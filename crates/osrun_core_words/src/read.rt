@@ -1,9 +1,10 @@
-ghost use Rattle.std.specs.Prelude.{◌≡◌, ◌≤◌, IfOk, Err, None, Some};
+ghost use Rattle.std.specs.Prelude.{◌≡◌, IfOk, Err, None, Some};
 ghost use Rattle.clap.specs.Words.{found_of, rows_of};
 ghost use Rattle.osrun_core_words.specs.Arguments.{argument_of, id_of, name_in, argument_number};
-ghost use Rattle.osrun_core_jobs.specs.Jobs.{IsRequestWithin, request_of};
+ghost use Rattle.osrun_core_jobs.specs.Jobs.{IsRequestWithin, IsWithin, Run, Trace, job_of, request_of};
 ghost use Rattle.osrun_core_words.specs.Command.{command, compile_form, exec_form, explain_form, gen_form};
 ghost use Rattle.osrun_core_words.specs.Command.{replay_form, request_by, run_form, texts, trace_form};
+ghost use Rattle.osrun_core_words.specs.Command as commands;
 ghost use Rattle.osrun_core_words.specs.Parsed.{IsNumberFor, IsNumberGiven};
 ghost use Rattle.osrun_core_words.specs.declared.words_error.WordsError.TheVariants as errors;
 
@@ -34,6 +35,41 @@ fn number_of(matches: &ArgMatches<'_>, argument: Argument<'_>) -> u64
     matches.get_one::<u64>(argument.id()).unwrap_or(0)
 }
 
+/// On which terms a run was asked for.
+fn terms_of(matches: &ArgMatches<'_>) -> Terms
+    requires workers { IsNumberGiven matches.now commands.workers }
+    requires task_budget { IsNumberGiven matches.now commands.task_budget }
+    requires control_budget { IsNumberGiven matches.now commands.control_budget }
+    ensures workers { result.workers ≡ argument_number (rows_of (found_of matches.now)) (id_of commands.workers) }
+    ensures task_budget { result.task_budget ≡ argument_number (rows_of (found_of matches.now)) (id_of commands.task_budget) }
+    ensures control_budget { result.control_budget ≡ argument_number (rows_of (found_of matches.now)) (id_of commands.control_budget) }
+    ensures workers_within { IsNumberFor commands.workers result.workers }
+    ensures task_budget_within { IsNumberFor commands.task_budget result.task_budget }
+    ensures control_budget_within { IsNumberFor commands.control_budget result.control_budget }
+{
+    Terms {
+        workers: number_of(matches, WORKERS) as u32,
+        task_budget: number_of(matches, TASK_BUDGET),
+        control_budget: number_of(matches, CONTROL_BUDGET),
+    }
+}
+
+/// The run that `run` and `trace` ask for.
+fn run_of<'w>(matches: &ArgMatches<'w>) -> Job<'w>
+    requires workers { IsNumberGiven matches.now commands.workers }
+    requires task_budget { IsNumberGiven matches.now commands.task_budget }
+    requires control_budget { IsNumberGiven matches.now commands.control_budget }
+    ensures run { run_form.request (rows_of (found_of matches.now)) ≡ Run (job_of result) }
+    ensures trace { trace_form.request (rows_of (found_of matches.now)) ≡ Trace (job_of result) }
+    ensures within { IsWithin (job_of result) }
+{
+    Job {
+        program: name_of(matches, PROGRAM),
+        input: name_of(matches, INPUT),
+        terms: terms_of(matches),
+    }
+}
+
 /// The job of `run`.
 fn read_run<'w>(alloc: Global, words: &'w [String]) -> Result<Request<'w>, WordsError>
     ensures request { IfOk result (λ request. request_by run_form (texts words.entry.now) ≡ Some (request_of request)) }
@@ -41,15 +77,7 @@ fn read_run<'w>(alloc: Global, words: &'w [String]) -> Result<Request<'w>, Words
     ensures refused { result ≡ Err errors.Refused → request_by run_form (texts words.entry.now) ≡ None }
 {
     let matches = parse(alloc, RUN, words)?;
-    Ok(Request::Run(Job {
-        program: name_of(&matches, PROGRAM),
-        input: name_of(&matches, INPUT),
-        terms: Terms {
-            workers: number_of(&matches, WORKERS) as u32,
-            task_budget: number_of(&matches, TASK_BUDGET),
-            control_budget: number_of(&matches, CONTROL_BUDGET),
-        },
-    }))
+    Ok(Request::Run(run_of(&matches)))
 }
 
 /// The job of `gen`.
@@ -87,11 +115,7 @@ fn read_exec<'w>(alloc: Global, words: &'w [String]) -> Result<Request<'w>, Word
     Ok(Request::Exec(ExecJob {
         object: name_of(&matches, OBJECT),
         input: name_of(&matches, INPUT),
-        terms: Terms {
-            workers: number_of(&matches, WORKERS) as u32,
-            task_budget: number_of(&matches, TASK_BUDGET),
-            control_budget: number_of(&matches, CONTROL_BUDGET),
-        },
+        terms: terms_of(&matches),
     }))
 }
 
@@ -106,11 +130,7 @@ fn read_explain<'w>(alloc: Global, words: &'w [String]) -> Result<Request<'w>, W
         program: name_of(&matches, PROGRAM),
         input: name_of(&matches, INPUT),
         activation: number_of(&matches, ACTIVATION) as u32,
-        terms: Terms {
-            workers: number_of(&matches, WORKERS) as u32,
-            task_budget: number_of(&matches, TASK_BUDGET),
-            control_budget: number_of(&matches, CONTROL_BUDGET),
-        },
+        terms: terms_of(&matches),
     }))
 }
 
@@ -121,15 +141,7 @@ fn read_trace<'w>(alloc: Global, words: &'w [String]) -> Result<Request<'w>, Wor
     ensures refused { result ≡ Err errors.Refused → request_by trace_form (texts words.entry.now) ≡ None }
 {
     let matches = parse(alloc, TRACE, words)?;
-    Ok(Request::Trace(Job {
-        program: name_of(&matches, PROGRAM),
-        input: name_of(&matches, INPUT),
-        terms: Terms {
-            workers: number_of(&matches, WORKERS) as u32,
-            task_budget: number_of(&matches, TASK_BUDGET),
-            control_budget: number_of(&matches, CONTROL_BUDGET),
-        },
-    }))
+    Ok(Request::Trace(run_of(&matches)))
 }
 
 /// The job of `replay`.

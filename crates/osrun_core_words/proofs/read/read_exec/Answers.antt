@@ -13,7 +13,8 @@ same_exec object o input i workers w task t control k a b c d e = cc
 pub returns-clause-request : goal.returns-clause-request
 returns-clause-request c =
     request_read exec_form (texts c.args.words.now) c.in_ok-matches.matches _ c.in_ok-matches.ensures.parsed
-    (same_exec _ _ _ _ _ _ _ _ _ _ c.name_of.ensures c.name_of-2.ensures c.number_of.ensures.value c.number_of-2.ensures.value c.number_of-3.ensures.value)
+    (same_exec _ _ _ _ _ _ _ _ _ _ c.name_of.ensures c.name_of-2.ensures c.terms_of.ensures.workers c.terms_of.ensures.task_budget
+    c.terms_of.ensures.control_budget)
 
 pub returns-in_err-matches-clause-refused : goal.returns-in_err-matches-clause-refused
 returns-in_err-matches-clause-refused c =

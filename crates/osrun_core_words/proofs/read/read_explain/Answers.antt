@@ -15,8 +15,8 @@ same_explain program p input i activation a workers w task t control k e0 e1 e2 
 pub returns-clause-request : goal.returns-clause-request
 returns-clause-request c =
     request_read explain_form (texts c.args.words.now) c.in_ok-matches.matches _ c.in_ok-matches.ensures.parsed
-    (same_explain _ _ _ _ _ _ _ _ _ _ _ _ c.name_of.ensures c.name_of-2.ensures c.number_of.ensures.value c.number_of-2.ensures.value c.number_of-3.ensures.value
-    c.number_of-4.ensures.value)
+    (same_explain _ _ _ _ _ _ _ _ _ _ _ _ c.name_of.ensures c.name_of-2.ensures c.number_of.ensures.value c.terms_of.ensures.workers
+    c.terms_of.ensures.task_budget c.terms_of.ensures.control_budget)
 
 pub returns-in_err-matches-clause-refused : goal.returns-in_err-matches-clause-refused
 returns-in_err-matches-clause-refused c =
