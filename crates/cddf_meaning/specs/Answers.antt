@@ -6,7 +6,7 @@ use Rattle.c_int.specs.declared.trap.Trap.TheVariants.{Operator}
 use Rattle.cddf_meaning.specs.declared.ending.Ending.{Ending}
 use Rattle.cddf_meaning.specs.declared.ending.Ending.TheVariants.{Trapped, OverBudget}
 
--- It gives something; or the body ends in it: by a trap, with its line, or because the turns are used up.
+-- What an evaluation comes to: it gives something, or the body ends in it, by a trap with its line or because the turns are used up.
 abbrev pub Answer : Type 0 → Type 0
 Answer A = Result A Ending
 

@@ -29,7 +29,7 @@ variable_fits (Item item) = true
 abbrev pub bound_fits : List Binding → Bool
 bound_fits bound = list_all (λ (b : Binding). variable_fits b.variable) bound
 
--- a state's numbers
+-- the values of a state's variables and the elements of its items are within an `int`
 pub record StateFits (s : BodyState) : Type 0 where
   pub variables : bound_fits s.bound ≡ true
   pub items : list_all elements_fit s.items ≡ true

@@ -11,7 +11,7 @@ abbrev pub Falls : {A : Type 0} → ℕ → Answer (Left A) → Type 0
 Falls turns (Ok n) = n.turns ≤ turns
 Falls turns (Err ending) = ⊤
 
--- what is called doesn't raise them either
+-- no call of a function of the file leaves more turns than there were
 abbrev pub CallsFall : File → Type 0
 CallsFall file = (n : ℕ) (args : List ℤ) (turns : ℕ) → Falls turns (file.calls n args turns)
 

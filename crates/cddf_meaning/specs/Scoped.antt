@@ -68,6 +68,6 @@ scoped_main_behind file s (tree.Function f ∷ is) =
 abbrev pub scoped_main : tree.ProgramTree → Option Main
 scoped_main program = scoped_main_behind empty_file notes.file program
 
--- both find the same
+-- the walk over scopes finds the same `main`, with the same tasks, as the definition by names alone
 abbrev pub FindTheSame : tree.ProgramTree → Type 0
 FindTheSame program = scoped_main program ≡ main_of program

@@ -15,7 +15,7 @@ use Rattle.os_ast.specs.declared.program.Param.{Param}
 
 -- A task. What its body sees of the control program has the types that it has there.
 pub record Task : Type 0 where
-  -- its PragmaStart
+  -- the token that begins its pragma
   pub mark : Mark
   -- its items and `firstprivate` names, in the order of its clauses
   pub members : List ClauseMember

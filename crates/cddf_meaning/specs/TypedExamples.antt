@@ -34,7 +34,7 @@ minus_one = tree.Unary one.Minus (mark 0 1) (tree.Number 1)
 abbrev pub typed_alone : tree.ExprTree → Answer (Left Typed)
 typed_alone e = typed_value empty_file e (state_of [] []) 0
 
--- its bits
+-- the value of an expression by its bits, in the same state
 abbrev pub bits_alone : tree.ExprTree → Answer (Left ℤ)
 bits_alone e = value empty_file e (state_of [] []) 0
 

@@ -7,7 +7,7 @@ use Rattle.cddf_meaning.specs.declared.variable.Variable.{Variable}
 abbrev pub bind : ℕ → Bool → Variable → List Binding → List Binding
 bind id unsigned v bound = record { id = id; variable = v; unsigned = unsigned } ∷ bound
 
--- The innermost declaration counts.
+-- what a name stands for: the innermost declaration of it counts, which is listed first
 abbrev pub find : List Binding → ℕ → Option Variable
 find [] id = None
 find (b ∷ bound) id = if b.id == id then Some b.variable else find bound id

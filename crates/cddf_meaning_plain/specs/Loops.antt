@@ -7,7 +7,7 @@ use Rattle.os_ast.specs.declared.expr.Expr.{Expr}
 use Rattle.os_ast.specs.declared.stmt.Change.{Change}
 use Rattle.os_ast.specs.declared.stmt.Stmt.{Stmt}
 
--- a loop
+-- a loop whose test and step may be left out, over a state and turns
 abbrev pub repeated : Around → Option Expr → Stmt → Option Change → Runs
 repeated u test body step s turns =
     loop turns (run_test u.file (option_map expr_tree test)) (run u (stmt_tree body)) (run_step u.file (option_map change_tree step)) s turns

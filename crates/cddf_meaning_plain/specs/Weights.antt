@@ -90,6 +90,6 @@ abbrev pub file_item_weight : tree.ItemTree → ℕ
 file_item_weight (tree.Constant c) = 0
 file_item_weight (tree.Function f) = 1 + stmts_weight f.body
 
--- the functions of a file
+-- the weight of a file: that of its functions, and one for each item
 abbrev pub file_weight : List tree.ItemTree → ℕ
 file_weight items = weights file_item_weight items

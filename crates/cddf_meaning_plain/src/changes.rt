@@ -38,7 +38,7 @@ fn aim_at(
     }
 }
 
-/// Runs a change.
+/// Evaluates an assignment, a `++` or a `--`, and stores the new value in its target.
 #[cycle(meaning)]
 pub(crate) fn change(
     alloc: Global,

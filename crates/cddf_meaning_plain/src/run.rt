@@ -123,7 +123,7 @@ fn block(
     Ok(flow)
 }
 
-/// Runs a `for`.
+/// Runs a `for`: its start in a scope of its own, and the loop there.
 #[cycle(meaning)]
 fn for_loop(
     alloc: Global,
@@ -259,7 +259,7 @@ fn declarators(
     Ok(())
 }
 
-/// Runs a declarator.
+/// Declares what a declarator names, with its size or its first value.
 #[cycle(meaning)]
 fn declarator(
     alloc: Global,

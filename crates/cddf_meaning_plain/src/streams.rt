@@ -112,7 +112,7 @@ fn add_claims(
     Ok(())
 }
 
-/// Adds what a clause claims.
+/// Adds the claims of a clause's items.
 #[cycle(meaning)]
 fn clause_claims(
     alloc: Global,

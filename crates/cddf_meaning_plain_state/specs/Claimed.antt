@@ -9,7 +9,7 @@ use Rattle.cddf_meaning.specs.declared.variable.Variable.{Variable}
 use Rattle.flow_core_laws.specs.declared.claim.Claim.{Claim}
 use Rattle.cddf_meaning_plain_state.specs.declared.body_state.Streams.{Streams}
 
--- claims, behind others
+-- the claims that an evaluation gives, put behind others
 abbrev pub behind : List Claim → Answer (Left (List Claim)) → Answer (Left (List Claim))
 behind before answer = and_then answer (λ cs. Ok (left (before ++ cs.value) cs.turns))
 

@@ -15,7 +15,7 @@ use Rattle.flow_core_laws.specs.declared.task_end.TaskEnd.{TaskEnd}
 abbrev pub IsOutcome : TaskEnd → List ℤ → Outcome → Type 0
 IsOutcome end outputs o = (end ≡ o.end) × (outputs ≡ o.outputs)
 
--- a body that ended normally
+-- the outcome of a body that ended normally: done, or the trap of an output element that is no byte
 abbrev pub finished : ℕ → List Claim → List (List ℤ) → Outcome
 finished line claims items = if gives_bytes claims items then done (outputs_of claims items) else trapped (trap_code NoByte) line
 

@@ -13,7 +13,7 @@ use Rattle.cddf_meaning_plain_state.specs.declared.stop.Stop.TheVariants as stop
 use Rattle.flow_core_laws.specs.declared.activation.Activation.{Activation}
 use Rattle.flow_core_laws.specs.declared.claim.Claim.{Claim}
 
--- an evaluation ends so
+-- an evaluation ends by this stop; where memory was wanting, nothing is said of it
 abbrev pub Stops : {A : Type 0} → Stop → Answer A → Type 0
 Stops (stop.Ended ending) answer = answer ≡ Err ending
 Stops stop.Memory answer = ⊤
@@ -43,7 +43,7 @@ abbrev pub GoesOn : {A : Type 0} → Result A Stop → BodyState → ℕ → Ran
 GoesOn (Ok done) s turns r = r ≡ goes_on s turns
 GoesOn (Err stop) s turns r = StopsIn stop s.activations r
 
--- a change of the state
+-- a change of the state went through, or stopped and left the activations as they were
 abbrev pub Now : {A : Type 0} → Result A Stop → BodyState → BodyState → Answer BodyState → Type 0
 Now (Ok done) new old answer = answer ≡ Ok new
 Now (Err stop) new old answer = Stops stop answer × (new.activations ≡ old.activations)
@@ -53,7 +53,7 @@ abbrev pub Made : {A : Type 0} → Result A Stop → BodyState → BodyState →
 Made (Ok done) new wanted = new ≡ wanted
 Made (Err reason) new wanted = reason ≡ stop.Memory
 
--- the condition of a loop
+-- a condition was evaluated: it holds where its value isn't 0
 abbrev pub Tests : Result Bool Stop → ℕ → Answer (Left ℤ) → Type 0
 Tests (Ok holds) turns answer = (n : ℤ) × (answer ≡ Ok (left n turns)) × (holds ≡ not (is_zero n))
 Tests (Err stop) turns answer = Stops stop answer

@@ -31,9 +31,9 @@ use std::marker::Model;
 /// The numbers of a stream or an array of streams.
 #[derive(Clone, Copy, Debug, PartialEq, Eq)]
 pub struct Streams {
-    /// The number of the first.
+    /// The number of the first stream.
     pub first: u32,
-    /// How many streams they are.
+    /// How many streams there are, of numbers one behind another.
     pub count: u32,
 }
 
@@ -469,7 +469,7 @@ impl BodyState {
         Ok(())
     }
 
-    /// One more activation, of the task with this number. It has passed no limit.
+    /// Adds an activation of the task with this number, whose claims pass no limit.
     #[tactic(auto, using(crate::proofs::Horizons::all_with, crate::proofs::Horizons::within))]
     pub fn create(
         &mut self,

@@ -10,7 +10,7 @@ use std::alloc::{AllocError, AllocFailed};
 /// Why an evaluation gives nothing.
 #[derive(Clone, Copy, Debug, PartialEq, Eq)]
 pub enum Stop {
-    /// The body ends in it.
+    /// The body ends there: by a trap, by its budget or by a limit.
     Ended(Ending),
     /// Memory could not be had. It is also the answer to a tree that no text means: with a number past an `int`, or with
     /// more streams than a program declares.

@@ -19,6 +19,6 @@ around_in items control = record { file = file_of (map item_tree items); is_cont
 abbrev pub around_of : around.Around → Around
 around_of u = around_in u.file.now (option_copied u.control)
 
--- round the body of `main`
+-- what the body of `main` has round it: the items of the file, and the program's tasks
 abbrev pub round_sites : List tree.ItemTree → List Site → Around
 round_sites items sites = record { file = file_of items; is_control = true; sites = sites }

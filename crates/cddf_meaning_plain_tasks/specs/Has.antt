@@ -91,7 +91,7 @@ abbrev pub clauses_item_ids : List tree.ClauseTree → List ℕ
 clauses_item_ids [] = []
 clauses_item_ids (c ∷ cs) = clause_item_ids c.kind ++ clauses_item_ids cs
 
--- whether `firstprivate` lists it
+-- whether a clause is a `firstprivate` that lists the name
 abbrev pub clause_lists : ℕ → tree.ClauseKindTree → Bool
 clause_lists id (tree.Input is) = false
 clause_lists id (tree.Output is) = false
@@ -142,6 +142,6 @@ abbrev mutual
   has_stmts id tree.no_stmts = false
   has_stmts id (tree.stmt a rest) = has_stmt id a || (not (declares id a) && has_stmts id rest)
 
--- whether a task takes it from round it
+-- whether a task takes the name from round it
 abbrev pub has_task : ℕ → List tree.ClauseTree → tree.StmtTree → Bool
 has_task id cs body = lists id cs || (not (calls_item id cs) && has_stmt id body)

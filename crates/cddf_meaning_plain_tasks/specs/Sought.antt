@@ -18,7 +18,7 @@ abbrev pub item_names : List tree.ClauseItemTree → List ℕ
 item_names [] = []
 item_names (i ∷ is) = (item_name i.stream i.window).id ∷ item_names is
 
--- the names that items have
+-- the names that clause items mention: of their streams and of what is behind their arrows
 abbrev pub items_names : List tree.ClauseItemTree → List ℕ
 items_names [] = []
 items_names (i ∷ is) = target_names i.stream ++ join_names i.window ++ items_names is

@@ -21,7 +21,7 @@ fn window(inputs: &[i32], horizon: u32) -> (&[i32], &[i32])
     inputs.split_at(horizon)
 }
 
-/// The elements of the items.
+/// The elements of each item: those of the inputs, and zeros for what the task will write.
 fn item_lists(alloc: Global, claims: &[Claim], inputs: &[i32]) -> Result<Vec<List<i32>>, Memory>
     ensures { IfOk result (λ items. items.items ≡ item_lists claims.now inputs.now) }
 {

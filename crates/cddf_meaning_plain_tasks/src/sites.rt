@@ -42,7 +42,7 @@ impl Sites {
         }
     }
 
-    /// One more task. `Memory` leaves them as they were.
+    /// Adds a task. After `Memory` the list is what it was.
     fn push(&mut self, site: Site) -> Result<(), Memory>
         ensures ok { OnOk result (self.new ≡ self.old ++ site ∷ []) }
         ensures err { OnErr result (self.new ≡ self.old) }

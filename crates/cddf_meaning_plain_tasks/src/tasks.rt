@@ -61,7 +61,7 @@ pub fn main_of(items: &[Item]) -> Option<Main<'_>>
     None
 }
 
-/// Takes a name away.
+/// Removes a name from a list of names.
 fn forget(ids: &mut Vec<u32>, id: u32)
     ensures { ids.new.items ≡ others id ids.old.items }
 {
@@ -174,7 +174,7 @@ fn declare_start(start: &Start, known: &mut Vec<KnownName>) -> Result<(), Memory
     }
 }
 
-/// A task, where this is in scope round it.
+/// The task of a pragma, by the names that are in scope round it.
 #[tactic(auto, using(crate::proofs::HasNames::clauses_ids))]
 fn found<'p>(
     alloc: Global,
@@ -194,7 +194,7 @@ fn found<'p>(
     })
 }
 
-/// Adds a task.
+/// Adds the task of a pragma to those that were found before it.
 fn add_task<'p>(
     alloc: Global,
     site: &'p TaskSite,

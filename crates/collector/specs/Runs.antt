@@ -22,7 +22,7 @@ write_claim stream horizon = record { stream = stream; write = true; horizon = h
 abbrev pub task : List Claim → Activation
 task claims = record { site = 0; captured = []; claims = claims }
 
--- the body of an activation, by the ends of those that fail
+-- a body for small runs: an activation that has an end in the list fails so, and any other is Done and gives 7
 abbrev pub body : List (Option TaskEnd) → ℕ → List ℤ → Outcome
 body failing activation inputs =
     option_map_or (λ (e : TaskEnd). outcome_of e []) (slice_index_or failing activation None) (outcome_of Done (pos 7 ∷ []))

@@ -49,7 +49,7 @@ pub fn meanings_are_states()
     ensures { OfFilled AreOfState }
 {}
 
-/// There, each activation that isn't done has a line in the report, and no other has: one without an end misses an
+/// Where those that are done filled their outputs, each activation that isn't done has a line in the report, and no other has: one without an end misses an
 /// element. The producer that such a line names has no end either, unless the element is one of the input, which no lawful
 /// claim writes.
 pub fn all_but_done_have_lines()

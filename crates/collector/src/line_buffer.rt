@@ -37,7 +37,7 @@ impl LineBuffer {
         }
     }
 
-    /// Writes what is kept.
+    /// Writes the bytes that are kept to the sink.
     pub(crate) fn flush<S: Sink>(&mut self, sink: &mut S) -> Result<(), WriteError>
         ensures goes_on { GoesOn S.Sink sink.old sink.new self.old self.new [] result }
         ensures empty { OnOk result (self.new ≡ []) }

@@ -9,7 +9,7 @@ use flow_core_laws::{ControlEnd, Ends, TaskEnd};
 pub enum RunStatus {
     /// Every activation and the control program are Done.
     AllDone,
-    /// The run ended otherwise.
+    /// An activation isn't Done, or the control program ended in another way.
     NotAllDone,
 }
 

@@ -40,7 +40,7 @@ fn is_same_activation(one: &Activation, other: &Activation) -> bool {
         && one.claims.as_slice() == other.claims.as_slice()
 }
 
-/// What a control program means.
+/// The activations and the end that a control program has by its meaning.
 fn control_meant(
     rt: &impl Abort,
     alloc: Global,

@@ -28,13 +28,13 @@ fn run_beside(rt: &impl Abort, alloc: Global, compiled: &Compiled, run: &str) ->
     control_beside(rt, alloc, compiled, input_len, u64::from(budget))
 }
 
-/// The bodies of a run.
+/// A run of `main` ends as it means, and so do the bodies of its activations.
 fn bodies_of_run_beside(rt: &impl Abort, alloc: Global, compiled: &Compiled, run: &str) {
     let control = run_beside(rt, alloc, compiled, run);
     bodies_beside(rt, alloc, compiled, &control);
 }
 
-/// The runs of the rows, and the bodies of the first.
+/// The runs of the rows end as they mean, and so do the bodies of the first one.
 fn rows_beside(rt: &impl Abort, alloc: Global, compiled: &Compiled, rows: &str) {
     for row in rows.lines() {
         if row.starts_with("run ") {
@@ -44,14 +44,14 @@ fn rows_beside(rt: &impl Abort, alloc: Global, compiled: &Compiled, rows: &str) 
     bodies_of_run_beside(rt, alloc, compiled, rows);
 }
 
-/// The runs of a case, and the bodies of the first.
+/// The runs of a case end as they mean, and so do the bodies of the first one.
 fn case_beside(rt: &impl Abort, alloc: Global, case: &str) {
     let (text, rows) = case.split_once("----\n").expect(rt, "a program with rows");
     let compiled = compile(rt, alloc, text);
     rows_beside(rt, alloc, &compiled, rows);
 }
 
-/// The cases of a table.
+/// Each case of a table runs as it means.
 fn cases_beside(rt: &impl Abort, alloc: Global, table: &str) {
     for case in table.split("====\n") {
         case_beside(rt, alloc, case);
@@ -89,7 +89,7 @@ fn counts_so(rt: &impl Abort, alloc: Global, case: &Counted) {
     }
 }
 
-/// Each case of a table.
+/// Each case of a table makes as many activations, and ends, as it says.
 fn all_count_so(rt: &impl Abort, alloc: Global, cases: &[Counted]) {
     for case in cases {
         counts_so(rt, alloc, case);

@@ -14,7 +14,7 @@ type Nest = ([&'static str; 5], u32);
 const BEFORE: &str =
     "int f(int a) { return a; } int g(int a, int b) { return b; } int h(int a) { int c[1];\n";
 
-/// The lines behind it.
+/// The lines behind a body.
 const BEHIND: &str =
     "\n} int main(void) { int y;\n#pragma omp task output(osout << y)\ny = h(1);\n}\n";
 

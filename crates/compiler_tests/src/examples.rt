@@ -25,7 +25,7 @@ fn lengths_beside(rt: &impl Abort, alloc: Global, text: &str) {
     }
 }
 
-/// Each program does so.
+/// Each of these programs runs as it means over inputs of each length.
 fn all_beside(rt: &impl Abort, alloc: Global, texts: &[&str]) {
     for text in texts {
         lengths_beside(rt, alloc, *text);

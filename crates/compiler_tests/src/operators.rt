@@ -73,7 +73,7 @@ fn body_beside(rt: &impl Abort, alloc: Global, body: [&str; 3]) {
     pairs_beside(rt, alloc, text.as_str());
 }
 
-/// Each body with an operator of a table between a head and a tail does so.
+/// With each operator of a table between a head and a tail, the body ends as it means for each pair of numbers.
 fn operators_beside(rt: &impl Abort, alloc: Global, head: &str, operators: &[&str], tail: &str) {
     for operator in operators {
         body_beside(rt, alloc, [head, *operator, tail]);

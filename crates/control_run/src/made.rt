@@ -19,7 +19,7 @@ pub(crate) struct Made {
 }
 
 impl Made {
-    /// Nothing yet, over `streams` streams.
+    /// What a run over `streams` streams has made before its first instruction.
     pub fn new(alloc: Global, streams: u32) -> Result<Made, Memory>
         ensures { IfOk result (λ made. made ≡ record { created = 0; skips = replicate streams 0; horizons = 0 }) }
     {

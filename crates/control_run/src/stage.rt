@@ -3,7 +3,7 @@ use crate::running::Stopped;
 /// How far a run of `main` by stretches has come.
 #[derive(Clone, Copy, Debug)]
 pub(crate) enum Stage {
-    /// It stands behind the stretches so far, and more activations may come.
+    /// The run stands behind the stretches so far, and more activations may come.
     Standing,
     /// `main` has ended, and all activations were given.
     Ended(Stopped),

@@ -27,7 +27,7 @@ impl Model for Ticked {
 }
 
 impl Ticked {
-    /// Nothing yet, of `streams` streams.
+    /// The amounts before any tick, for `streams` streams.
     pub fn new(alloc: Global, streams: u32) -> Result<Ticked, Memory>
         ensures { IfOk result (λ ticked. ticked ≡ replicate streams 0) }
     {

@@ -14,7 +14,7 @@ use Rattle.stream_match_layouts.specs.Layout.{IsLayout, IsLayoutOf}
 use Rattle.stream_match_layouts.specs.declared.layout.Layout.{Layout}
 use Rattle.epoch_run.specs.declared.held.Held.{Held}
 
--- it is what the activations mean, with their tasks on the machine, and those of them that have no end are listed
+-- what is held is what the activations mean, with their tasks on the machine, and lists those of them that have no end
 pub record IsHeldOf (code : Parts) (activations : List Activation) (input : List ℕ) (budget : ℕ) (held : Held) : Type 0 where
   pub is_meant : IsHeld activations input (frame_outcome code activations budget) held.ends.ends (map kept_of held.kept.items) held.ends.output
   pub are_open : held.without_end ≡ open_in held.ends.ends (length held.ends.ends)
@@ -23,7 +23,7 @@ pub record IsHeldOf (code : Parts) (activations : List Activation) (input : List
 abbrev pub listed : Held → Held
 listed held = record held { without_end = open_in held.ends.ends (length held.ends.ends) }
 
--- it is what some of the activations mean, those before an epoch
+-- what is held is that of the first of these activations, those before an epoch
 pub record IsHeldBefore (code : Parts) (activations : List Activation) (input : List ℕ) (budget : ℕ) (held : Held) : Type 0 where
   pub before : List Activation
   pub new : List Activation

@@ -28,11 +28,11 @@ joined layout next = record {
   input_len = layout.input_len;
 }
 
--- They are those of the next activations: behind the layout of those before, they make the layout of all.
+-- The next spans are those of more activations: behind the layout of those before, they make the layout of all.
 pub record ComeBehind (layout : Layout) (more : List Activation) (next : NextSpans) : Type 0 where
   pub laid : (before : List Activation) → IsLayoutOf layout before → IsLayoutOf (joined layout next) (before ++ more)
 
--- they can be put behind the layout: the numbers of spans fit their type, and each span is on one of its streams
+-- the next spans can be put behind the layout: their numbers fit their type, and each is on one of its streams
 pub record FitBehind (layout : Layout) (next : NextSpans) : Type 0 where
   pub few : length layout.spans + length next.spans < 2 ^ 32
   pub exist : All (λ (s : Span). s.stream < length layout.writers) next.spans

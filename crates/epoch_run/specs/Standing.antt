@@ -23,19 +23,19 @@ pub record HasCreated (count : ℕ) (before after : RunSoFar) (list added_to : L
   pub fit : All (Fits after.code) (created_so_far after)
   pub lawful : AreLawful after.code.streams (created_so_far after)
 
--- it has created some of them, at most `at_most`, or all where fewer remained
+-- the control program has created the next activations, at least one and at most `at_most`, or all where fewer remained
 pub record HasAdvanced (at_most : ℕ) (before after : RunSoFar) (list added_to : List Activation) : Type 0 where
   pub count : ℕ
   pub some : 1 ≤ count
   pub few : count ≤ at_most
   pub created : HasCreated count before after list added_to
 
--- it has created the next ones, whatever they are
+-- the control program has created some of the next activations, whatever they are
 pub record HasMoved (at_most : ℕ) (before after : RunSoFar) : Type 0 where
   pub next : List Activation
   pub advanced : HasAdvanced at_most before after [] next
 
--- it has created the next ones, which stand behind those of a list, and the layout of all that came before has them too
+-- the control program has created activations, which stand behind those of a list, and in the layout behind all that came before
 pub record HasCreatedNext (at_most : ℕ) (before after : RunSoFar) (list longer : List Activation) (layout longer_layout : Layout) : Type 0 where
   pub next : List Activation
   pub advanced : HasAdvanced at_most before after [] next

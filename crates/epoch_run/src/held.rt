@@ -26,7 +26,7 @@ use stream_match::{Kept, Layout, Stretch};
 pub(crate) struct Held {
     /// How the activations so far ended, and the elements of the output.
     pub ends: Ends,
-    /// Those of them that have no end, ascending.
+    /// The activations that have no end yet, ascending.
     pub without_end: List<u32>,
     /// The elements that may still be read.
     pub kept: Vec<Kept>,

@@ -6,7 +6,7 @@ use flow_core_laws::Plan;
 /// What a table of atomic words costs an activation, in steps of the machine of a body: bodies that take fewer gain nothing by it.
 const TABLE_STEPS: u64 = 1_000;
 
-/// What it costs a cell.
+/// What such a table costs for each cell, in the same steps.
 const CELL_STEPS: u64 = 80;
 
 /// What it takes to create an activation and to run it in control order, besides its own steps.

@@ -12,7 +12,7 @@ use flow_core_laws::{Elem, TaskEnd};
 use os_io::{List, Memory};
 use stream_match::Stretch;
 
-/// The largest power of two.
+/// The largest power of two that a `usize` holds.
 const MOST_ROOM: usize = 1 << 63;
 
 /// For how many items a list has room from the start. An allocator hands so large a block out untouched, and what isn't used of it costs

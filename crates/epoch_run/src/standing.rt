@@ -47,7 +47,7 @@ pub(crate) struct Standing<'c> {
     pub(crate) first: u32,
     /// The positions of all that it has created.
     pub layout: Layout,
-    /// What is held of those that were run.
+    /// How the activations that were run ended, what they wrote to the output, and what of their elements may still be read.
     pub held: Held,
     /// How many activations had run when several workers last tried to share the run out.
     pub(crate) tried: u32,

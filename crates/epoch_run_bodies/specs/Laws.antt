@@ -23,7 +23,7 @@ abbrev pub BodiesServeAll : Type 0
 BodiesServeAll = (code : Parts) (activations : List Activation) (budget : ℕ) → IsValid code → All (Fits code) activations → budget ≤ budget_limit
     → ServesAll activations (frame_outcome code activations budget) (TakesFrame code activations budget)
 
--- two bodies make the same of all inputs of each activation
+-- for each activation two bodies have the same outcome, whatever inputs it reads
 abbrev pub Agree : List Activation → (body other : ℕ → List ℤ → Outcome) → Type 0
 Agree activations body other = (a : ℕ) (x : Activation) (inputs : List ℤ) → slice_get activations a ≡ Some x → length inputs ≡ input_count x
     → body a inputs ≡ other a inputs

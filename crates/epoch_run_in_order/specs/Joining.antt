@@ -16,7 +16,7 @@ with_joined streams others stream =
     then record { elements = slice_set streams.elements stream (joined_on streams others stream); firsts = streams.firsts }
     else streams
 
--- all streams but the input are joined so
+-- the streams of two runs are joined: all but the input, each by what both hold of it
 pub record AreJoinedTo (streams others joined : Streams) : Type 0 where
   pub as_many : length joined.elements ≡ length streams.elements
   pub firsts : joined.firsts ≡ streams.firsts

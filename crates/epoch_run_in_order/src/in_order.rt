@@ -21,15 +21,15 @@ use task_workers_round::Gate;
 /// A run of activations in control order, behind those that ran so far.
 #[derive(Drop)]
 pub struct InOrder {
-    /// How each of them ended.
+    /// How each activation that ran ended.
     pub ends: List<Option<TaskEnd>>,
-    /// What the streams hold behind them.
+    /// What the streams hold behind the activations that ran.
     pub streams: Streams,
-    /// What the next one reads.
+    /// What the next activation reads.
     pub(crate) inputs: Inputs,
-    /// What it writes.
+    /// What the next activation writes.
     pub(crate) outputs: Vec<i32>,
-    /// What its task works on.
+    /// The memory that its task works in.
     pub(crate) scratch: Scratch,
     /// How many steps the bodies of those that ran took, as far as the number goes.
     pub steps: u64,

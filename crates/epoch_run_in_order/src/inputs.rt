@@ -7,7 +7,7 @@ use std::alloc::Global;
 pub(crate) struct Inputs {
     /// Places for values, of which the first ones hold those that were read.
     pub places: Vec<i32>,
-    /// How many these are.
+    /// How many of the places hold a value that was read.
     pub count: usize,
     pub root: Option<u32>,
     ghost within: { count ≤ vec_len places },

@@ -72,7 +72,7 @@ fn blanks(
     Ok(elements)
 }
 
-/// Adds those of the declared streams.
+/// Adds for each declared stream its elements from the first held position on, none of which is kept yet.
 fn add_blanks(
     alloc: Global,
     elements: &mut List<List<Option<Elem>>>,

@@ -14,7 +14,7 @@ WaitFrom activations input ends first =
     (a : ℕ) → first ≤ a → a < length activations
     → (p : Place) × (Contains (input_places activations a) p) × CannotCome ends [] (stream_source activations input p)
 
--- So does each activation without an end before a number.
+-- Each activation before a number that has no end reads such an element too.
 abbrev pub WaitBefore : List Activation → List ℕ → List (Option TaskEnd) → ℕ → Type 0
 WaitBefore activations input ends first =
     (a : ℕ) → a < first → outcome_at ends a ≡ None

@@ -23,7 +23,7 @@ pub data PositionCannotCome (layout : Layout) (waits : List Bool) (stream positi
       → (span_at layout number).first ≤ position → position < end_of (span_at layout number) → is_stuck waits (span_at layout number).frame ≡ true
       → PositionCannotCome layout waits stream position
 
--- a span reads such an element
+-- a read span covers a position whose element can't come
 pub record SpanWaits (layout : Layout) (waits : List Bool) (span : Span) : Type 0 where
   pub reads : span.write ≡ false
   pub position : ℕ

@@ -52,7 +52,7 @@ pub fn ready_frames(alloc: Global, layout: &Layout, readers: &[u32]) -> Result<L
     Ok(frames)
 }
 
-/// Those of the readers that don't wait, by marks of those that do: all of them, with no second look, where none reads behind all that
+/// The readers that don't wait, by marks of those that do. All of them are answered without a second look where none reads behind all that
 /// is written.
 fn chosen(alloc: Global, layout: &Layout, readers: &[u32]) -> Result<List<u32>, Memory>
     requires layout { IsLayout layout.now }
@@ -103,8 +103,8 @@ fn others_than(
     Ok(frames)
 }
 
-/// Those of the readers that have no mark and don't wait, where of each stream a position is known whose element can't come, and what reads
-/// such a one is among the first `count` readers.
+/// The readers that have no mark and don't wait. `missing` has for each stream a position whose element can't come; who reads such an
+/// element is among the first `count` readers.
 fn unmarked(
     alloc: Global,
     layout: &Layout,
@@ -125,7 +125,7 @@ fn unmarked(
     Ok(frames)
 }
 
-/// Whether there is a mark.
+/// Whether any activation is marked.
 fn has_mark(waits: &[bool]) -> bool {
     for mark in waits {
         if *mark {

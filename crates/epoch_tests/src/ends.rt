@@ -13,7 +13,7 @@ use std::process::Abort;
 use std::thread::Threads;
 use task_workers::NoGate;
 
-/// It asks for more activations than a run may have.
+/// A program that asks for more activations than a run may have.
 const ACTIVATIONS: &str = r"int main(void) {
     int i, y;
     for (i = 0; i < 70000; i++) {
@@ -23,7 +23,7 @@ const ACTIVATIONS: &str = r"int main(void) {
 }
 ";
 
-/// Its windows would cover more elements than those of a run may: with one element covered, the 64th window of 65,536 has no room.
+/// A program whose windows would cover more elements than a run's may: with one element covered, the 64th window of 65,536 has no room.
 const ELEMENTS: &str = r"int main(void) {
     int i, y, w[65536];
     #pragma omp task input(osin >> y)
@@ -35,7 +35,7 @@ const ELEMENTS: &str = r"int main(void) {
 }
 ";
 
-/// It never ends.
+/// A program whose `main` never ends.
 const TURNS: &str = r"int main(void) {
     int i = 0, y;
     while (1) {
@@ -46,7 +46,7 @@ const TURNS: &str = r"int main(void) {
 }
 ";
 
-/// It traps.
+/// A program in which one activation traps, and `main` behind its loop.
 const TRAPS: &str = r"int main(void) {
     int i, y;
     for (i = 0; i < 70; i++) {
@@ -186,7 +186,7 @@ fn ends_so<R: Threads + Sync>(
         && are_all_same(rt, alloc, code, control, &whole)
 }
 
-/// Asks that a program does so.
+/// Asks that a program ends as its case says, whichever way it runs.
 fn ends_as_told<R: Threads + Sync + Abort>(rt: &R, alloc: Global, case: &Case) {
     let (text, control, end, count) = *case;
     let code = compiled(rt, alloc, text).expect(rt, "a program");

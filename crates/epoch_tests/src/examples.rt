@@ -85,21 +85,21 @@ fn example<R: Threads + Sync + Abort>(
     written(rt, alloc, &whole)
 }
 
-/// Asks this of some programs over an input.
+/// Asks what `example` asks of each of some programs over an input.
 fn examples<R: Threads + Sync + Abort>(rt: &R, alloc: Global, rows: &[Example], input: &[u8]) {
     for (text, created, done) in rows {
         example(rt, alloc, *text, input, *created, *done, Ways::Each);
     }
 }
 
-/// Asks this of a coder over an input, and of its decoder over what the coder writes.
+/// Asks what `example` asks of a coder over an input, and of its decoder over what the coder writes.
 fn pair<R: Threads + Sync + Abort>(rt: &R, alloc: Global, row: Pair, input: &[u8], ways: Ways) {
     let (coder, coded, decoder, decoded) = row;
     let codes = example(rt, alloc, coder, input, coded, coded, ways);
     example(rt, alloc, decoder, codes.as_slice(), decoded, decoded, ways);
 }
 
-/// Asks this of some coders with their decoders.
+/// Asks what `example` asks of some coders with their decoders.
 fn pairs<R: Threads + Sync + Abort>(rt: &R, alloc: Global, rows: &[Pair], input: &[u8]) {
     for row in rows {
         pair(rt, alloc, *row, input, Ways::Each);

@@ -6,7 +6,7 @@ use flow_core_laws::ControlEnd;
 use os_io::{List, Memory};
 use std::test::Fail;
 
-/// It asks for more activations than a run may have.
+/// A program that asks for more activations than a run may have.
 const MANY: &str = r"int main(void) {
     int i, y;
     for (i = 0; i < 70000; i++) {

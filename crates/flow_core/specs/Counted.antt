@@ -16,7 +16,7 @@ pub record IsCounted (plan : Plan) (cells : List (Option Elem)) (waits : Waits) 
   pub counts : (f : ℕ) → f < length plan.frames → slice_index waits.missing.items f ≡ missing_of plan cells f
   pub opens_full : OpensFull waits
 
--- There is a root, or there are outputs up to a number.
+-- Where there is no root of poison, there are at least `count` outputs.
 abbrev pub HasOutputs : ℕ → Option ℕ → List ℤ → Type 0
 HasOutputs count root outputs = root ≡ None → count ≤ length outputs
 

@@ -27,7 +27,7 @@ pub struct FrameBuffers {
 }
 
 impl FrameBuffers {
-    /// Empty ones. They take no memory.
+    /// Empty buffers. They take no memory.
     pub fn new(alloc: Global) -> FrameBuffers {
         FrameBuffers {
             inputs: Vec::new(alloc),

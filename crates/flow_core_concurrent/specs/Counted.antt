@@ -8,7 +8,7 @@ use Rattle.flow_core_laws.specs.Plans.{held_at, cells_of, piece_at}
 use Rattle.flow_core_concurrent.specs.declared.word.Word.{Word}
 use Rattle.flow_core_concurrent.specs.Words.{word_at, has_ended}
 
--- a test as a number
+-- 1 where a test holds, and 0 where it doesn't
 abbrev pub one : Bool → ℕ
 one test = if test then 1 else 0
 

@@ -237,6 +237,6 @@ abbrev pub StepsAreChoices : Type 0
 StepsAreChoices =
     (known : Known) (state new : CoreState) (step : Step known state new) → after_choice known state (choice_of known state new step) ≡ Some new
 
--- and the states that they reach are reached by steps
+-- every state that choices reach from opening is one that steps reach
 abbrev pub ChoicesAreWays : Type 0
 ChoicesAreWays = (known : Known) (state : CoreState) (choices : List Choice) → reached_by known choices ≡ Some state → Way known state

@@ -45,7 +45,7 @@ first_before_second =
     to_split 0 ∷ to_claim 0 0 ∷ to_claim 1 1 ∷ to_store 0 ∷ to_sub 0 ∷ to_finish 0 ∷ to_store 1 ∷ to_sub 1 ∷ to_finish 1 ∷ to_join 0 1
     ∷ to_claim 0 2 ∷ to_read 0 0 ∷ to_read 0 1 ∷ to_store 0 ∷ to_sub 0 ∷ to_finish 0 ∷ to_look 0 ∷ to_look 0 ∷ to_look 0 ∷ []
 
--- They deliver in turns, the second one ahead, and the first one makes the consumer.
+-- The seats step in turns, the second producer ahead, and the first producer makes the consumer.
 abbrev pub second_before_first : List Choice
 second_before_first =
     to_split 0 ∷ to_claim 1 1 ∷ to_claim 0 0 ∷ to_store 1 ∷ to_store 0 ∷ to_sub 1 ∷ to_sub 0 ∷ to_finish 0 ∷ to_finish 1 ∷ to_join 0 1 ∷ []

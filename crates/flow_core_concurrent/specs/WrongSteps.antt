@@ -108,7 +108,7 @@ by_producers plan s = record { words = map (word_by_producers plan) (range_with_
 abbrev pub CountsProducers : Type 0
 CountsProducers = Breaks pairs (opening pairs) (by_producers pairs.plan)
 
--- And the frame opens at the first piece of its producer.
+-- With such a counter a SUB opens a frame of one producer at its first piece, though more elements are missing.
 abbrev pub opens_at_once : CoreState → ℕ → View → FrameRun → Piece → CoreState
 opens_at_once s i view run piece =
     record { words = slice_set s.words piece.to Open; cells = s.cells; seats = slice_set s.seats i (with_sub view run piece.to true) }

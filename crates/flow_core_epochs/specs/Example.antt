@@ -29,7 +29,7 @@ before = task (write_claim 2 2 ∷ []) ∷ task (reads_two ∷ write_claim 1 1 �
 abbrev pub new : List Activation
 new = task (write_claim 2 1 ∷ []) ∷ []
 
--- the ends of the writers
+-- the bodies: the writers end as they are told, and the reader gives the sum of what it reads
 abbrev pub body : TaskEnd → TaskEnd → ℕ → List ℤ → Outcome
 body first second activation inputs =
     if activation == 0 then outcome_of first (pos 7 ∷ pos 8 ∷ [])

@@ -48,7 +48,7 @@ FramesEnd =
     OfEpochs (λ before new input body readers frames kept plan places. (f a : ℕ) → slice_get frames f ≡ Some a
     → outcome_at (stream_meaning (before ++ new) input body) a ≡ outcome_at (epoch_meaning plan frames body) f)
 
--- its sink cells have the elements of the places that leave
+-- the sink cells of the epoch's plan have the elements of the places that leave the epoch
 abbrev pub SinkIsWhatLeaves : Type 0
 SinkIsWhatLeaves =
     OfEpochs (λ before new input body readers frames kept plan places. sink_elements plan (epoch_meaning plan frames body)
@@ -85,7 +85,7 @@ OutputStays =
 abbrev pub HeldAtFirst : Type 0
 HeldAtFirst = (input : List ℕ) (body : ℕ → List ℤ → Outcome) → IsHeld [] input body [] [] []
 
--- What is held serves the next epoch, whichever frames leave out only what waits: they run with what is kept.
+-- What is held is enough for the next epoch: where its frames leave out only what waits, they run with the elements that are kept.
 abbrev pub BeginsEpoch : Type 0
 BeginsEpoch =
     (before new : List Activation) (input : List ℕ) (body : ℕ → List ℤ → Outcome) (ends : List (Option TaskEnd)) (kept : List Kept)
@@ -108,7 +108,7 @@ AllLeaveOutNothing =
     (activations : List Activation) (input : List ℕ) (ends : List (Option TaskEnd)) (frames : List ℕ) → frames ≡ open_in ends (length activations)
     → LeaveOutWaiting activations input ends frames
 
--- And what an epoch comes to is held after it.
+-- What an epoch comes to, put over what was held before it, is what is held behind it.
 abbrev pub EndsEpoch : Type 0
 EndsEpoch =
     OfEpochs (λ before new input body readers frames kept plan places. (ends : List (Option TaskEnd)) (output : List (Option Elem)) (run : Ends)

@@ -141,13 +141,13 @@ RootsFailed =
 abbrev pub Fact : Type 1
 Fact = (State → Source → Option Elem) → (ℕ → List Source) → (ℕ → List Elem → Outcome) → ℕ → Type 0
 
--- such a fact of each list of activations over each input, with each body
+-- the fact holds of every list of activations, over every input and with every body
 abbrev pub OfStreams : Fact → Type 0
 OfStreams fact =
     (activations : List Activation) (input : List ℕ) (body : ℕ → List ℤ → Outcome)
     → fact stream_element (stream_reads activations input) (poisoning body) (length activations)
 
--- such a fact of each plan, with each outcome
+-- the fact holds of every plan, with every outcome of its frames
 abbrev pub OfPlans : Fact → Type 0
 OfPlans fact = (plan : Plan) (outcome : ℕ → List ℤ → Outcome) → fact (plan_element plan) (plan_reads plan) (poisoning outcome) (length plan.frames)
 

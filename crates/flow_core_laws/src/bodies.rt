@@ -10,7 +10,7 @@ use std::alloc::Global;
 /// `outcome` is what a frame's body does with its inputs, `takes` says whether `run` accepts a frame
 /// with these numbers of inputs and outputs, and `fits` whether a scratch serves these bodies.
 pub trait Bodies: Sync {
-    /// The working room of `run`.
+    /// The memory that `run` works in.
     type Scratch: Send + Drop;
 
     ghost outcome: { Self → ℕ → List ℤ → Outcome };
@@ -19,7 +19,7 @@ pub trait Bodies: Sync {
 
     ghost fits: { Self → Self.Scratch → Type 0 };
 
-    /// A scratch for `run`.
+    /// Makes the memory that `run` works in.
     fn scratch(&self, alloc: Global) -> Result<Self::Scratch, Memory>
         ensures { IfOk result (fits self.now) };
 

@@ -29,7 +29,7 @@ pub struct Piece {
     pub from: u32,
     pub to: u32,
     pub first: u32,
-    /// At least 1.
+    /// How many elements the piece has, at least 1.
     pub count: u32,
     /// The number of the first cell that it fills.
     pub at: u32,

@@ -11,7 +11,7 @@ use Rattle.flow_core_concurrent.specs.declared.view.View.{View}
 use Rattle.flow_core_concurrent.specs.Steps.{output_of, first_place, StandsAt}
 use Rattle.frame_table.specs.Seats.{at}
 
--- a view that stands there
+-- a view whose seat runs this frame and stands at this piece, with so many of its elements stored
 abbrev pub standing : View → (frame piece stored : ℕ) → View
 standing v frame piece stored = record v { run = Some (at frame piece stored) }
 
@@ -35,7 +35,7 @@ pub record MayRead (known : Known) (view : View) (run : FrameRun) (cell : ℕ) :
   pub gave_nothing : run ≡ first_place known.plan run.frame
   pub is_its_cell : HasCell known.plan run.frame cell
 
--- These elements were read into a buffer: the least root among them, or else their values.
+-- What a buffer holds behind a read of these elements: the least root of poison among them, or else all their values.
 pub record AreKept (elements : List Elem) (least : Option ℕ) (into : List ℤ) : Type 0 where
   pub least_is : least ≡ least_root elements
   pub values_are : least ≡ None → take (length elements) into ≡ values_of elements

@@ -28,7 +28,7 @@ IsNoProgram text line = (tokens : List Token) × (place : ℕ) × IsTokenCover t
 abbrev pub HasLeastViolation : List ℕ → ℕ → ℕ → Type 0
 HasLeastViolation text c line = (p : ProgramTree) × (v : Violation) × IsProgramOf text p × IsRefusal p v × (code v.rule ≡ c) × (v.line ≡ line)
 
--- What is wrong with a text, by its code and its line: the first of its first fault, that it is no program, its least
+-- What is wrong with a text, by its code and its line: its first fault, or that its tokens mean no program, or its least
 -- violation. The later ones need a cover, and the last one a program.
 pub data IsRefused (text : List ℕ) : ℕ → ℕ → Type 0 where
   has_fault : {code line : ℕ} → IsFirstFault text code line → IsRefused text code line

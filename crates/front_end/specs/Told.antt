@@ -20,12 +20,12 @@ told_fault (lex.OpenComment line) = errors.Refused (refusals.Fault fault.OpenCom
 told_fault (lex.BigNumber line) = errors.Refused (refusals.Fault fault.BigNumber) line
 told_fault lex.Memory = errors.Memory
 
--- tokens of no program
+-- what is told of tokens that mean no program
 abbrev pub told_syntax : ParseError → TextError
 told_syntax (parse.Syntax place line) = errors.Refused refusals.NoProgram line
 told_syntax parse.Memory = errors.Memory
 
--- its code, where it has one, is that of a rule
+-- an error of the checks has the code of a rule, unless memory was wanting
 abbrev pub HasRule : CheckError → Type 0
 HasRule (check.Fault code line) = (rule : Rule) × (code_of rule ≡ code)
 HasRule check.Memory = ⊤

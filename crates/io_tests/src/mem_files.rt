@@ -64,7 +64,7 @@ static READINGS: [Reading; 5] = [
     (20_000, 5, Some(20_000)),
 ];
 
-/// Asks that a text is read so.
+/// Asks that a text is read as each of these readings says.
 fn has_lengths(
     rt: &impl Abort,
     alloc: Global,

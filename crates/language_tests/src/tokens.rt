@@ -68,7 +68,7 @@ fn shown(rt: &impl Abort, alloc: Global, text: &str) -> String {
     out
 }
 
-/// A row holds.
+/// The text of a row is cut into the tokens that the row says, or refused as it says.
 fn holds(rt: &impl Abort, alloc: Global, row: &str) {
     let (text, wanted) = row.split_once(" =>").expect(rt, "a row with an arrow");
     let found = shown(rt, alloc, text);

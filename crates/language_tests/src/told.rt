@@ -81,7 +81,7 @@ fn is_told_so(rt: &impl Abort, alloc: Global, told: Told, case: &str) {
     assert!(rt; found.as_str() == wanted, "{found}");
 }
 
-/// Each case of a table.
+/// Each program of a table is accepted, and what its case says is told of it.
 pub(crate) fn are_told_so(rt: &impl Abort, alloc: Global, told: Told, cases: &str) {
     for case in cases.split("====\n") {
         is_told_so(rt, alloc, told, case);

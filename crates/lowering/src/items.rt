@@ -24,7 +24,7 @@ pub(crate) fn emit_items(
     visit_items(&ItemCode, draft, told, clauses)
 }
 
-/// The code of each item.
+/// The visitor that emits the code of each item.
 struct ItemCode;
 
 impl ItemVisitor for ItemCode {

@@ -17,7 +17,7 @@ use os_code::Site;
 use os_io::{List, Memory};
 use std::alloc::Global;
 
-/// The tasks of `main`.
+/// Adds the unit and the site of each task of `main`.
 #[tactic(auto, using(crate::proofs::Rules::tasks))]
 pub(crate) fn add_program_tasks(
     alloc: Global,
@@ -38,7 +38,7 @@ pub(crate) fn add_program_tasks(
     Ok(())
 }
 
-/// The tasks of a statement.
+/// Adds the unit and the site of each task in a statement.
 #[cycle(tasks)]
 #[tactic(auto, using(crate::proofs::Rules::tasks))]
 fn add_tasks(
@@ -72,7 +72,7 @@ fn add_tasks(
     }
 }
 
-/// The tasks of the statements of a block.
+/// Adds the unit and the site of each task in the statements of a block.
 #[cycle(tasks)]
 #[tactic(auto, using(crate::proofs::Rules::tasks))]
 fn add_all_tasks(
@@ -90,7 +90,7 @@ fn add_all_tasks(
     Ok(())
 }
 
-/// A task: its unit, whose first slots are what it captures, and its site.
+/// Adds a task's unit, whose first slots are what it captures, and its site.
 fn add_task(
     alloc: Global,
     made: &mut Units,
@@ -113,7 +113,7 @@ fn add_task(
     })
 }
 
-/// The unit of a task that captures `captured` scalars.
+/// Adds the unit of a task that captures `captured` scalars.
 fn add_unit(made: &mut Units, told: &Told<'_>, captured: usize, body: &Stmt) -> Result<(), Memory>
     ensures { OnOk result (made.new ≡ with_unit (task_code (told_at told.now.names.now) (stmt_tree body.now)) captured
         (capped (captured + stmt_slots owner.OfTask (size_by (told_at told.now.names.now)) (stmt_tree body.now))) made.old) }

@@ -22,7 +22,7 @@ use os_code::Instr;
 use os_io::{List, Memory};
 use os_lexer::names::MAIN;
 
-/// The functions, in the order of the text.
+/// Adds the units of all functions, in the order of the text.
 #[tactic(auto, using(crate::proofs::Rules::units))]
 pub(crate) fn add_functions(
     made: &mut Units,
@@ -37,7 +37,7 @@ pub(crate) fn add_functions(
     Ok(())
 }
 
-/// An item, which has a unit where it is a function.
+/// Adds the unit of an item, where it is a function.
 fn add_item(made: &mut Units, told: &Told<'_>, item: &Item) -> Result<(), Memory>
     ensures { OnOk result (made.new ≡ with_item (told_at told.now.names.now) (item_tree item.now) made.old) }
 {
@@ -60,7 +60,7 @@ pub(crate) fn is_main(function: &Function) -> bool
     function.name.id == MAIN
 }
 
-/// A function: its parameters are its first slots.
+/// Adds the unit of a function, whose parameters are its first slots.
 fn add_function(made: &mut Units, told: &Told<'_>, function: &Function) -> Result<(), Memory>
     ensures { OnOk result (made.new ≡ with_plain (told_at told.now.names.now) (function_tree function.now) made.old) }
 {
@@ -72,7 +72,7 @@ fn add_function(made: &mut Units, told: &Told<'_>, function: &Function) -> Resul
     made.add(start, args, slots)
 }
 
-/// `main`: its slot 0 has the length of the input.
+/// Adds the unit of `main`, whose slot 0 has the length of the input.
 fn add_main(made: &mut Units, told: &Told<'_>, function: &Function) -> Result<(), Memory>
     ensures { OnOk result (made.new ≡ with_main (told_at told.now.names.now) (function_tree function.now) made.old) }
 {

@@ -24,7 +24,7 @@ with_label draft = record draft { places = draft.places ++ None ∷ [] }
 abbrev pub with_place : Draft → Label → Draft
 with_place draft label = record draft { places = slice_set draft.places label.number (Some (length draft.instrs)) }
 
--- the next task is spawned
+-- a draft behind the instruction that spawns the next task
 abbrev pub with_spawn : Draft → Draft
 with_spawn draft = record draft { instrs = draft.instrs ++ Spawn draft.spawned ∷ []; spawned = draft.spawned + 1 }
 

@@ -28,7 +28,7 @@ abbrev pub StatementsAreFew : Type 0
 StatementsAreFew = (tells : ℕ → Resolved) (s : tree.StmtTree) (x : Exits) (next : Option Label) (d : Draft) →
     length (stmt_code tells s x next d).instrs + units_most (tasks_of s) ≤ length d.instrs + 8 * tokens (stmt s)
 
--- Those of a function pay for its code, the units of its tasks, and two instructions behind its body.
+-- The tokens of a function pay for its code, the units of its tasks, and two instructions behind its body.
 abbrev pub FunctionsAreFew : Type 0
 FunctionsAreFew = (tells : ℕ → Resolved) (f : tree.FunctionTree) (x : Exits) (next : Option Label) (d : Draft) →
     length (block_code tells f.body x next d).instrs + 2 + units_most (all_tasks_of f.body) ≤ length d.instrs + 8 * tokens (function f)

@@ -10,14 +10,14 @@ use crate::told::Told;
 use os_ast::{Clause, ClauseItem, ClauseKind, Direction};
 use os_io::{List, Memory};
 
-/// What is made of each item of a task's clauses.
+/// What to do with each item of a task's clauses, for the walk below.
 pub trait ItemVisitor {
     ghost use Rattle.std.specs.Prelude.{ℕ};
     ghost use Rattle.os_ast.specs.Trees.{ClauseItemTree};
     ghost use Rattle.os_ast.specs.declared.names.Direction.{Direction};
     ghost use Rattle.os_ast.specs.declared.names.Resolved.{Resolved};
 
-    /// What grows by an item.
+    /// What the walk adds to, as a draft or a list.
     type Made: Drop;
 
     // What there is behind an item, by what names mean.

@@ -42,7 +42,7 @@ impl Draft {
         self.instrs.push(instr)
     }
 
-    /// Spawns the next task.
+    /// Emits the instruction that spawns the next task of the program.
     pub fn spawn(&mut self) -> Result<(), Memory>
         ensures { OnOk result (self.new ≡ with_spawn self.old) }
     {

@@ -22,7 +22,7 @@ pub fn resolve(draft: Draft) -> List<Instr>
     instrs
 }
 
-/// One pass over the instructions.
+/// Puts the places of labels into all jumps.
 fn resolve_all(instrs: &mut [Instr], places: &[Option<u32>])
     ensures { instrs.new ≡ map (with_places (place_in places.now)) instrs.old }
 {

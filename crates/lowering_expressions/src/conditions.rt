@@ -56,7 +56,7 @@ pub fn emit_condition(
     }
 }
 
-/// The right sides of `&&`.
+/// Emits the tests of the right sides of `&&`, each of which jumps to `fails` at 0.
 #[cycle(conditions)]
 #[tactic(auto, using(crate::proofs::Rules::expressions))]
 fn emit_conditions(
@@ -73,7 +73,7 @@ fn emit_conditions(
     Ok(())
 }
 
-/// The value of a condition, and its test.
+/// Emits the value of a condition, and the jump to `fails` where it is 0.
 fn emit_test(
     draft: &mut Draft,
     told: &Told<'_>,

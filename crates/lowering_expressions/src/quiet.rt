@@ -7,7 +7,7 @@ ghost use Rattle.lowering_relation.specs.Changes.{are_quiet, is_quiet, is_quiet_
 use os_ast::{Binary, Expr, Link, Unary};
 use os_io::List;
 
-/// Whether an expression is quiet.
+/// Whether an expression can neither trap nor take a turn.
 #[cycle(quiet)]
 #[tactic(auto, using(crate::proofs::Rules::expressions))]
 pub(crate) fn is_quiet(expr: &Expr) -> bool

@@ -23,7 +23,7 @@ abbrev pub HasScalar : Parts → (ℕ → Resolved) → (id slot : ℕ) → Opti
 HasScalar code tells id slot None from to = Stands code (Push (pos 0) ∷ Store slot ∷ []) from to
 HasScalar code tells id slot (Some e) from to = HasFirst code tells id slot e from to
 
--- the size of a window
+-- the size of a window is evaluated, and `Window` puts it into its slot; where no size stands, nothing is done
 abbrev pub HasWindow : Parts → (ℕ → Resolved) → (slot : ℕ) → Option tree.IndexTree → (from to : ℕ) → Type 0
 HasWindow code tells slot None from to = from ≡ to
 HasWindow code tells slot (Some i) from to = (end : ℕ) × HasExpr code tells i.value from end × Stands code (Window slot i.mark.line ∷ []) end to

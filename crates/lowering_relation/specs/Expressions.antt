@@ -21,7 +21,7 @@ use Rattle.os_code.specs.declared.parts.Parts.{Parts}
 use Rattle.os_code.specs.Parts.{instr_at}
 use Rattle.lowering_relation.specs.Names.{flags_by, reading, reading_at, calling}
 
--- these instructions stand from one place to another
+-- the code has these instructions from one place on, and goes on at another
 abbrev pub Stands : Parts → List Instr → (from to : ℕ) → Type 0
 Stands code [] from to = from ≡ to
 Stands code (i ∷ is) from to = (instr_at code from ≡ Some i) × Stands code is (from + 1) to
@@ -102,7 +102,7 @@ mutual
     each : {l : Level} {first : tree.ExprTree} {links : tree.Links} {fails from mid to : ℕ} → HasCondition code tells first fails from mid →
         HaveConditions code tells links fails mid to → HasCondition code tells (tree.Chain l first links) fails from to
 
-  -- the right sides of `&&`
+  -- the right sides of `&&` stand as conditions one behind another, which all go to `fails` at 0
   pub data HaveConditions (code : Parts) (tells : ℕ → Resolved) : tree.Links → (fails from to : ℕ) → Type 0 where
     no_more : {fails at : ℕ} → HaveConditions code tells tree.no_links fails at at
     one_more : {m : Mark} {e : tree.ExprTree} {rest : tree.Links} {fails from mid to : ℕ} → HasCondition code tells e fails from mid →

@@ -28,7 +28,7 @@ pub record IsLawful (p : tree.ProgramTree) : Type 0 where
 abbrev pub AreElse : File → List Binding → Type 0
 AreElse file more = (id : ℕ) → (find file.names id ≡ None) ⊎ (find more id ≡ None)
 
--- with these in scope too, round all that is
+-- a state with further declarations in scope, outside of all that it has
 abbrev pub with_more : List Binding → BodyState → BodyState
 with_more more s = record s { bound = s.bound ++ more }
 
@@ -48,7 +48,7 @@ TasksFindTheirNames =
     outcome t.mark.line a.claims (run (in_function m.file) t.body (with_more more (state_of (bound_round t a.captured) (item_lists a.claims inputs))) budget)
     ≡ body p a inputs budget
 
--- And a function's body, behind the items that stand before it.
+-- A function's body, too, gives the same whatever else is in scope behind the items before it.
 abbrev pub FunctionsFindTheirNames : Type 0
 FunctionsFindTheirNames =
     (items rest : List tree.ItemTree) (f : tree.FunctionTree) (more : List Binding) (args : List ℤ) (turns : ℕ)

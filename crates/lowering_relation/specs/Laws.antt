@@ -33,7 +33,7 @@ abbrev pub TasksEndSo : Type 0
 TasksEndSo = (p : tree.ProgramTree) (code : Parts) (a : Activation) (inputs : List ℤ) (budget : ℕ) → CodeStandsFor code p → Fits code a →
     read_horizons a.claims ≤ length inputs → (steps : ℕ) × TaskEnds code a inputs budget (body p a inputs budget) steps
 
--- And it ends in no other way.
+-- An activation of such code ends in no other way.
 abbrev pub TasksEndOnlySo : Type 0
 TasksEndOnlySo =
     (p : tree.ProgramTree) (code : Parts) (a : Activation) (inputs : List ℤ) (budget : ℕ) (outcome : Outcome) (steps : ℕ) → CodeStandsFor code p
@@ -45,7 +45,7 @@ abbrev pub MainEndsSo : Type 0
 MainEndsSo = (p : tree.ProgramTree) (code : Parts) (input_len budget : ℕ) → CodeStandsFor code p →
     (steps : ℕ) × ControlEnds code input_len budget (control p input_len budget) steps
 
--- And it ends in no other way.
+-- `main` of such code ends in no other way.
 abbrev pub MainEndsOnlySo : Type 0
 MainEndsOnlySo = (p : tree.ProgramTree) (code : Parts) (input_len budget : ℕ) (made : Control) (steps : ℕ) → CodeStandsFor code p →
     ControlEnds code input_len budget made steps → made ≡ control p input_len budget

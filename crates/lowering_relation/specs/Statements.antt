@@ -14,7 +14,7 @@ use Rattle.lowering_relation.specs.Expressions.{Stands, HasExpr, HasCondition}
 use Rattle.lowering_relation.specs.Names.{first_of}
 use Rattle.lowering_relation.specs.Tasks.{TaskTree, task_index, HasStream, HasItems}
 
--- What a body stands in.
+-- What the instructions of a body need to know of the program round it.
 pub record Body : Type 0 where
   -- what the name at a place means, and of which type that is
   pub tells : ℕ → Resolved

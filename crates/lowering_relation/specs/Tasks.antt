@@ -17,7 +17,7 @@ use Rattle.lowering_relation.specs.Expressions.{Stands, HasExpr}
 use Rattle.lowering_relation.specs.Names.{first_of, count_of}
 
 pub record TaskTree : Type 0 where
-  -- its PragmaStart
+  -- the token that begins its pragma
   pub mark : Mark
   pub members : List ClauseMember
   pub body : tree.StmtTree

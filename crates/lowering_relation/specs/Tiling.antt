@@ -19,6 +19,6 @@ pub record IsTiled (code : Parts) (program : ProgramTree) : Type 0 where
   pub tiles : Tile 0 (length code.instrs) code.units
   pub units : length code.units ≡ count_functions program + length (program_tasks program)
   pub task_units : (number : ℕ) (site : Site) → site_at code number ≡ Some site → site.unit ≡ count_functions program + number
-  -- there is room
+  -- the code and the slots of all its units are small enough for their limits
   pub short : length code.instrs < 2 ^ 32
   pub slots_small : sum_by (λ (unit : CodeUnit). unit.slots) code.units ≤ slots_limit

@@ -54,7 +54,7 @@ claims_fit (item ∷ items) (claim ∷ claims) = claim_fits item claim && claims
 claims_fit [] (claim ∷ claims) = false
 claims_fit (item ∷ items) [] = false
 
--- what an activation of it takes and gives
+-- whether an activation of a written task may have these scalars, claims and numbers of inputs and outputs
 abbrev pub is_run : (captured : List ℕ) → List SiteItem → (values : List ℤ) → List Claim → (inputs outputs : ℕ) → Bool
 is_run captured items values claims inputs outputs =
     (length values == length captured) && claims_fit items claims

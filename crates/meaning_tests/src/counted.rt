@@ -5,7 +5,7 @@ use flow_core_laws::ControlEnd;
 /// A program, the length of its input, a budget, how many activations there are, and the end.
 pub type Counted = (&'static str, u32, u64, usize, ControlEnd);
 
-/// Each against the limits.
+/// Programs that meet a limit or use up their turns, and ones that just don't.
 pub static COUNTED: [Counted; 9] = [
     // 65,536 activations; the next one would pass both limits, and the first counts
     (

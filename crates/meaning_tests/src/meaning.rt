@@ -202,7 +202,7 @@ fn rows_hold(rt: &impl Abort, alloc: Global, program: &Program, rows: &str) {
     all_hold(rt, alloc, program, &control, rows);
 }
 
-/// A case holds.
+/// The program of a case does in each row what the row says.
 fn holds(rt: &impl Abort, alloc: Global, case: &str) {
     let (text, rows) = case.split_once("----\n").expect(rt, "a program with rows");
     let checked = accepted(rt, alloc, text);

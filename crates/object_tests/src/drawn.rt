@@ -12,7 +12,7 @@ const CODES: u32 = 3000;
 /// How many slots each unit has.
 const SLOTS: u32 = 4;
 
-/// Numbers that look drawn.
+/// A generator of numbers that look drawn by lot.
 #[derive(Clone, Copy)]
 struct Draw {
     state: u64,

@@ -18,7 +18,7 @@ scalar_of id (entity.Control slot) = record { id = id; slot = slot } ∷ []
 scalar_of id entity.InputLength = record { id = id; slot = 0 } ∷ []
 scalar_of id _ = []
 
--- the scalars of other names
+-- the scalars without those of this name
 abbrev pub others : ℕ → List Scalar → List Scalar
 others id [] = []
 others id (c ∷ cs) = if c.id == id then others id cs else c ∷ others id cs

@@ -22,7 +22,7 @@ what_declared (entity.Streams first count) = what.Stream first count
 what_declared (entity.Element item d) = what.Element item
 what_declared (entity.View item d) = what.View item
 
--- which of the slots it is
+-- the place of a slot among those that a task captures
 abbrev pub place_in : List ℕ → ℕ → ℕ
 place_in slots slot = unwrap_or (position (λ s. s == slot) slots) 0
 

@@ -32,7 +32,7 @@ pub record Scope : Type 0 where
   -- whether the last declaration is of the type `unsigned`
   pub unsigned : Bool
 
--- whether it is the body of `main`
+-- whether a body is that of `main`
 abbrev pub is_main_body : Owner → Bool
 is_main_body owner.OfMain = true
 is_main_body _ = false
@@ -41,7 +41,7 @@ is_main_body _ = false
 abbrev pub in_unit : Owner → Scope → Scope
 in_unit o s = record s { owner = o; loop = false; captured = []; slots = 0; elements = 0 }
 
--- The innermost declaration counts.
+-- the declaration that a name means: the innermost one, which is listed first
 abbrev pub lookup : List Entry → ℕ → Option Entry
 lookup es id = find (λ (e : Entry). e.id == id) es
 

@@ -9,13 +9,13 @@ pub record Extent : Type 0 where
   pub first : ℕ
   pub size : ℕ
 
--- among the slots of a function or of a task
+-- the slots of a declaration in a function or in a task
 abbrev pub unit_extent : Entity → Option Extent
 unit_extent (entity.Scalar slot) = Some record { first = slot; size = 1 }
 unit_extent (entity.Array first size) = Some record { first = first; size = size }
 unit_extent _ = None
 
--- among the slots of `main`
+-- the slots of a declaration in the body of `main`
 abbrev pub main_extent : Entity → Option Extent
 main_extent (entity.Control slot) = Some record { first = slot; size = 1 }
 main_extent entity.InputLength = Some record { first = 0; size = 1 }

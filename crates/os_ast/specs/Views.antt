@@ -92,7 +92,7 @@ clause_kind_tree (kind.Firstprivate names) = tree.Firstprivate names
 abbrev pub clause_tree : Clause → tree.ClauseTree
 clause_tree c = record { comma = c.comma; kind = clause_kind_tree c.kind }
 
--- statements
+-- the trees of statements, and of all parts of them
 abbrev mutual
   pub stmt_tree : stmt.Stmt → tree.StmtTree
   stmt_tree stmt.Empty = tree.StmtTree.Empty

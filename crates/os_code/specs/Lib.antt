@@ -11,7 +11,7 @@ pub mod Laws
 pub mod Codes
 -- Which neighbouring instructions the machine takes at once.
 pub mod Forms
--- The same as functions, for computing.
+-- The machine's runs as functions, by which examples are computed.
 pub mod Running
 pub mod Outcomes
 pub mod Checking

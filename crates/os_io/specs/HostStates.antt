@@ -20,7 +20,7 @@ pub record HostSinkState : Type 0 where
   -- what the writer holds
   pub contents : Option (List ℕ)
 
--- what is left to read of the current file, by what tells it of a file; nothing where there is none
+-- what is left to read of the current file, where `remaining` tells it of an open one; nothing where none is open
 abbrev pub left_of : {File : Type 0} → (File → Option (List ℕ)) → Option File → Option (List ℕ)
 left_of remaining None = Some []
 left_of remaining (Some file) = remaining file

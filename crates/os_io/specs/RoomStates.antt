@@ -2,7 +2,7 @@
 use Rattle.std.specs.Prelude.{ℕ, List, length, take, drop, ◌++◌, refl}
 use Rattle.std.specs.Coded.{Coded, code_by, coded×, coded_ℕ, coded_list}
 
--- Its items, and how many more it can take with no memory.
+-- What a room holds: its items, and how many more it can take without memory.
 pub record RoomState (T : Type 0) : Type 0 where
   pub items : List T
   pub spare : ℕ

@@ -47,7 +47,7 @@ after_finding s None =
 after_finding s (Some bytes) =
     record s { calls = raised s.calls 1; opens = raised s.opens 1; given = 0; rest = bytes }
 
--- after an `open`
+-- the files behind an `open` of this name
 abbrev pub after_open : StoredFiles → List ℕ → StoredFiles
 after_open s name = after_finding s (found s name)
 

@@ -47,7 +47,7 @@ abbrev pub does : List ℕ → List Token → ℕ → Form → ℕ → Effect
 does text tokens at form n =
     let slice = take n (drop at text) in effect (mode_at text tokens at) (name_number text tokens slice) form slice
 
--- the lexeme is skipped
+-- a lexeme of this effect is skipped
 abbrev pub IsSkip : Effect → Type 0
 IsSkip (Skip mode) = Unit {0}
 IsSkip (Give kind mode) = ⊥
@@ -59,7 +59,7 @@ IsGive k (Skip mode) = ⊥
 IsGive k (Give kind mode) = kind ≡ k
 IsGive k (Fail wrong) = ⊥
 
--- the lexeme is this fault
+-- a lexeme of this effect is this fault
 abbrev pub IsFail : Fault → Effect → Type 0
 IsFail f (Skip mode) = ⊥
 IsFail f (Give kind mode) = ⊥

@@ -12,7 +12,7 @@ fixed_names = codes "omp" ∷ codes "task" ∷ codes "tick" ∷ codes "taskwait"
 abbrev pub fixed_id : List ℕ → ℕ
 fixed_id name = position_or_len (bytes_eq name) fixed_names
 
--- their numbers
+-- the numbers of the fixed names
 abbrev pub omp_id : ℕ
 omp_id = 0
 

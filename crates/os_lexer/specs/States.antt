@@ -62,7 +62,7 @@ abbrev pub number_by_map : Spellings → ℕ → List ℕ → ℕ
 number_by_map spellings count name =
     unwrap_or (position (bytes_eq name) fixed_names) (first_own_id + unwrap_or (first_of spellings name) count)
 
--- the fact, of a word
+-- the fact holds where the form is that of a word; of other forms nothing is said
 abbrev pub IfWord : Form → Type 0 → Type 0
 IfWord form.Space P = Unit {0}
 IfWord form.JoinedLine P = Unit {0}

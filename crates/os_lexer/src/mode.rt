@@ -10,9 +10,9 @@ use crate::bytes::is_line_feed;
 pub(crate) enum Mode {
     /// White space and comments alone, so that a `#` may begin a directive.
     LineStart,
-    /// A token.
+    /// A token as well, so that a `#` begins no directive before the next line.
     InLine,
-    /// The start of a pragma.
+    /// The start of a pragma whose line isn't over yet.
     InPragma,
 }
 

@@ -11,7 +11,7 @@ use Rattle.os_object.specs.Object.{Spells}
 use Rattle.os_object.specs.declared.object_error.ObjectError.{ObjectError}
 use Rattle.os_object.specs.declared.object_error.ObjectError.TheVariants.{Format, Invalid, Memory}
 
--- It is these parts that were read, or memory was wanting; nothing was refused.
+-- The answer is the code of these parts, or that memory was wanting, and no refusal.
 abbrev pub IsBack : Parts → Result Code ObjectError → Type 0
 IsBack parts (Ok code) = parts_of code ≡ parts
 IsBack parts (Err Format) = ⊥

@@ -102,7 +102,7 @@ pub(crate) fn read_instr(numbers: &[u32]) -> Option<(Instr, &[u32])>
     }
 }
 
-/// The operator of a number.
+/// The operator with this number, if there is one.
 fn unary_of(number: u32) -> Option<Unary>
     ensures some { IfSome result (λ operator. number ≡ unary_number operator) }
     ensures none { IfNone result ((operator : Unary) → number ≡ unary_number operator → ⊥) }
@@ -117,7 +117,7 @@ fn unary_of(number: u32) -> Option<Unary>
     }
 }
 
-/// The operator of a number.
+/// The operator with this number, if there is one.
 fn binary_of(number: u32) -> Option<Binary>
     ensures some { IfSome result (λ operator. number ≡ binary_number operator) }
     ensures none { IfNone result ((operator : Binary) → number ≡ binary_number operator → ⊥) }

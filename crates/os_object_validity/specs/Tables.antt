@@ -48,7 +48,7 @@ items_of Main = []
 items_of (Task site) = site.items
 items_of Function = []
 
--- what is asked of an instruction at a place of a unit, but for heights
+-- what is asked of an instruction at a place of a unit, apart from the heights of the operand stack
 abbrev pub turn_stands : Parts → ℕ → Instr → Bool
 turn_stands code place instr = implies (needs_turn instr) (is_turn (instr_at code (place - 1)))
 
@@ -103,7 +103,7 @@ place_stands code number unit place instr =
 abbrev pub unit_stands : Parts → CodeUnit → Bool
 unit_stands code unit = nat_le (unit.start + unit.stack) (region_end code unit) && nat_le unit.args unit.slots
 
--- what is asked of a site, but that its unit is no other's
+-- what is asked of a site, except that no other site has its unit
 abbrev pub item_stands : Parts → CodeUnit → SiteItem → Bool
 item_stands code main item = nat_lt item.stream code.streams && if_there (λ slot. nat_lt slot main.slots) item.window
 
@@ -165,7 +165,7 @@ pub record IsExplored (code : Parts) (heights : List (Option ℕ)) (waiting : Li
       → (IsWaiting waiting place ⊎ Opened place) ⊎ HeightsFit code (height_in heights) unit place height instr
   pub starts : (number : ℕ) (unit : CodeUnit) → unit_at code number ≡ Some unit → height_in heights unit.start ≡ Some 0
 
--- what is known of heights stays known, and how many places have none
+-- no height that was known is lost or changed; and how many places have none that is known
 abbrev pub IsKept : List (Option ℕ) → List (Option ℕ) → Type 0
 IsKept before after = (place height : ℕ) → height_in before place ≡ Some height → height_in after place ≡ Some height
 

@@ -37,7 +37,7 @@ pub(crate) fn operands_of(parts: &Parts, instr: Instr) -> usize
     }
 }
 
-/// The arguments of a unit.
+/// How many arguments the unit with this number takes.
 fn args_of(parts: &Parts, number: u32) -> usize
     ensures { result ≡ effects.operands_of parts.now (Instr.Call number) }
 {

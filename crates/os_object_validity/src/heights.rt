@@ -16,7 +16,7 @@ use std::alloc::Global;
 /// A place that was reached, whose instruction wasn't looked at yet.
 #[derive(Clone, Copy, Debug, PartialEq, Eq)]
 pub(crate) struct Waiting {
-    /// The number of its unit.
+    /// The number of the unit that the place is in.
     pub number: usize,
     pub place: usize,
     pub height: u32,
@@ -157,7 +157,7 @@ fn go_on(
     reach(parts, region.unit, next, at.place, heights, waiting)
 }
 
-/// Jumps, where the instruction may.
+/// Reaches the target of an instruction that may jump, with the height behind it.
 fn jump(
     parts: &Parts,
     region: Region,

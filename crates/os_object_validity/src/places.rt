@@ -21,7 +21,7 @@ pub(crate) struct Region {
     pub end: usize,
 }
 
-/// Whether each unit and each instruction stands.
+/// Whether all units and their instructions keep the rules of their places.
 pub(crate) fn places_stand(parts: &Parts, ends: &[usize], tasks: &[Option<usize>]) -> bool
     requires regions { HasRegions parts.now }
     requires ends { AreEnds parts.now ends.now }
@@ -42,7 +42,7 @@ pub(crate) fn places_stand(parts: &Parts, ends: &[usize], tasks: &[Option<usize>
     true
 }
 
-/// Whether a unit and its instructions stand.
+/// Whether a unit's arguments and stack are small enough, and each of its instructions may stand at its place.
 fn unit_stands(parts: &Parts, tasks: &[Option<usize>], region: Region) -> bool
     requires regions { HasRegions parts.now }
     requires told { AreTasks parts.now tasks.now }
@@ -63,7 +63,7 @@ fn unit_stands(parts: &Parts, tasks: &[Option<usize>], region: Region) -> bool
     true
 }
 
-/// Whether an instruction stands.
+/// Whether an instruction may stand at its place, as the tests below say one by one.
 fn place_stands(
     parts: &Parts,
     tasks: &[Option<usize>],

@@ -9,7 +9,7 @@ ghost use Rattle.os_object_validity.specs.Tables as tested;
 use os_ast::{ALL_STREAMS_LIMIT, CAPTURED_LIMIT, ITEMS_LIMIT, SLOTS_LIMIT};
 use os_code::{CodeUnit, Parts, Site, SiteItem};
 
-/// Whether `main` is there and takes the input's length, streams and slots are within their limits, and each site stands.
+/// Whether `main` is there and takes the input's length, streams and slots are within their limits, and what each site names is there.
 pub(crate) fn sites_stand(parts: &Parts) -> bool
     ensures { result ≡ tested.sites_stand parts.now }
 {
@@ -39,7 +39,7 @@ fn slots_few(units: &[CodeUnit]) -> bool
     true
 }
 
-/// Whether each site stands.
+/// Whether what each site names is there.
 fn all_stand(parts: &Parts, main: &CodeUnit) -> bool
     ensures { result ≡ list_all (tested.site_stands parts.now main.now) parts.now.sites }
 {

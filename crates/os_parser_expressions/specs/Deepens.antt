@@ -5,12 +5,12 @@ use Rattle.os_parser_grammar.specs.Statements.{inner, stmt_on, block_item}
 use Rattle.os_parser_expressions.specs.declared.production_error.ProductionError.{ProductionError}
 use Rattle.os_parser_expressions.specs.declared.production_error.ProductionError.TheVariants as errors
 
--- what is left of a depth, one deeper
+-- how many levels are left for the parts of an expression that stand one level deeper, or `Syntax` where none is left
 abbrev pub Deepens : ℕ → Result ℕ ProductionError → Type 0
 Deepens depth (Ok d) = (d + 1 ≡ depth) × (below depth ≡ Some (layer (below d)))
 Deepens depth (Err e) = (e ≡ errors.Syntax) × (below depth ≡ None)
 
--- what is left of a depth, one deeper, for the parts of statements
+-- how many levels are left for the parts of a statement that stand one level deeper, or `Syntax` where none is left
 abbrev pub DeepensStmt : ℕ → Result ℕ ProductionError → Type 0
 DeepensStmt depth (Ok d) = (d + 1 ≡ depth)
     × (below depth ≡ Some (layer (below d)))

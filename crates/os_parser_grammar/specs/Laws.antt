@@ -6,7 +6,7 @@ use Rattle.os_lexer.specs.declared.token.Token.{Token}
 use Rattle.os_parser_grammar.specs.Reading.{got, fails}
 use Rattle.os_parser_grammar.specs.Statements.{outermost, program}
 
--- What is given is what the tokens mean.
+-- A program that the grammar's reader gives of tokens is one that they mean.
 abbrev pub GivesWhatIsMeant : Type 0
 GivesWhatIsMeant = (tokens : List Token) (p : ProgramTree) (rest : List Placed) → program outermost (placed_from 0 tokens) ≡ got p rest → Means tokens p
 

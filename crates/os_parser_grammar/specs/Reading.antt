@@ -20,7 +20,7 @@ abbrev pub ◌>>=◌ : {A B : Type 0} → Read A → (A → Reader B) → Read B
 (got x rest) >>= f = f x rest
 (fails rest) >>= f = fails rest
 
--- what is its own tree
+-- the view of a part that is its tree as it stands
 abbrev pub Same : {A : Type 0} → A → A
 Same x = x
 

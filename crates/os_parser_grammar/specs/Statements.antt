@@ -342,7 +342,7 @@ stmt_by starts.Other s ts = fails ts
 unfoldable pub stmt_on : Option Inner → Reader StmtTree
 stmt_on s ts = stmt_by (stmt_at ts) s ts
 
--- what is read one deeper, below a depth
+-- the readers of parts of statements that stand one level deeper, where so many levels are left; none where none is left
 unfoldable pub inner : ℕ → Option Inner
 inner zero = None
 inner (suc d) = Some (record {

@@ -11,19 +11,19 @@ pub enum StmtStart {
     Name(u32),
     /// A `++` or `--` before its target.
     Step(Step),
-    /// An `if`.
+    /// The keyword `if`, of a branch.
     If,
-    /// A `while`.
+    /// The keyword `while`, of a loop with a test alone.
     While,
-    /// A `for`.
+    /// The keyword `for`, of a loop with a head.
     For,
-    /// A `break`.
+    /// The keyword `break`, which leaves a loop.
     Break,
-    /// A `continue`.
+    /// The keyword `continue`, which ends one pass of a loop.
     Continue,
-    /// A `return`.
+    /// The keyword `return`, which leaves a function or `main`.
     Return,
-    /// A line of a pragma.
+    /// The start of a pragma, which takes its whole line.
     Pragma,
     /// No statement begins so.
     Other,

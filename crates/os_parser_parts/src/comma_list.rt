@@ -12,7 +12,7 @@ use std::alloc::Global;
 
 /// A production that lists are made of, with what reading it takes beside the tokens.
 pub trait Production {
-    /// What is read.
+    /// What is made of the tokens of one part.
     type Item: Drop;
 
     ghost Tree: { Type 0 };
@@ -20,10 +20,10 @@ pub trait Production {
     /// What contracts see of an item.
     ghost view: { Self.Item → Tree };
 
-    /// What reading one gives.
+    /// The grammar's reader of one part, by which `read` has to answer.
     ghost reads: { Self → Reader Tree };
 
-    /// Reads one item.
+    /// Reads the part that begins at the cursor, and moves the cursor behind it.
     fn read(&self, alloc: Global, cursor: &mut Cursor<'_>) -> Result<Self::Item, ProductionError>
         ensures gives { Gives view result cursor.new (reads self.now cursor.old) }
         ensures within { length cursor.new ≤ length cursor.old };

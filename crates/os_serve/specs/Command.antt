@@ -28,6 +28,6 @@ abbrev pub MayRun : (ℕ → List ℕ → Bool) → List ℕ → Type 0
 MayRun may line = ForSome (command (line_words line))
     (λ request. (number k : ℕ) (file : JobFile) → slice_get (files_of request) k ≡ Some file → IsTrue (may number file.name))
 
--- So it is for each job of the file that is told. Of a file that isn't told, any line may be a job.
+-- Each line that is a job of the file of jobs may open its files; where what that file holds isn't told, any line may be a job.
 abbrev pub MayServe : (held : Option (List ℕ)) → (ℕ → List ℕ → Bool) → Type 0
 MayServe held may = (line : List ℕ) → IfSome held (λ bytes. IsJobIn bytes line) → IsText line → MayRun may line

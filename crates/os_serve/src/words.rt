@@ -36,7 +36,7 @@ pub fn serve_words<R: Threads + Sync, J: Files + Send, F: Files + Send, O: Sink,
     ensures other { is_serve (texts words.now) ≡ false → AnswersRequest F.Files files.old files.new O.Sink out.old out.new E.Sink report.old
         report.new (command (texts words.now)) result }
     ensures untouched { is_serve (texts words.now) ≡ false → jobs.new ≡ jobs.old }
-    // where it is
+    // where the first word is `serve`
     ensures served { IfSome (named_jobs (texts words.now)) (λ name. Serves J.Files jobs.old jobs.new (IsReplyTo F.Files) files.old files.new O.Sink out.old
         out.new E.Sink report.old report.new name result) }
     ensures refused { is_serve (texts words.now) ≡ true → named_jobs (texts words.now) ≡ None

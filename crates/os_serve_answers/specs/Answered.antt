@@ -26,7 +26,7 @@ pub record IsOutOfOutput {J F O : Type 0} (of_jobs : FilesView J) (told : Option
   pub are_replies : AreReplies run files_old files lines replies
   pub output : IsCutShort of_out out_old out (answers replies)
 
--- The first jobs were answered, and then memory was wanted.
+-- The first jobs were answered, and then memory ran out.
 pub record IsOutOfMemory {J F O : Type 0} (of_jobs : FilesView J) (told : Option (List ℕ)) (faults : ℕ) (jobs : J) (reading : Reading)
     (run : JobRun F) (files_old files : F) (of_out : SinkView O) (out_old out : O) : Type 0 where
   pub lines : List (List ℕ)

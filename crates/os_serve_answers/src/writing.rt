@@ -6,7 +6,7 @@ use crate::heading::heading_line;
 use crate::job_answer::JobAnswer;
 use os_io::{Sink, WriteError, write_whole};
 
-/// Writes bytes.
+/// Writes all these bytes to the output.
 fn write<O: Sink>(out: &mut O, bytes: &[u8]) -> Result<(), WriteError>
     ensures { IsWritten O.Sink out.old out.new bytes.now result }
 {

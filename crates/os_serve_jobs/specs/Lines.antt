@@ -16,7 +16,7 @@ pub record StartsWith (bytes : List ℕ) (lines : List (List ℕ)) (rest : List 
   pub bytes_are : bytes ≡ flat_map ended_line lines ++ rest
   pub each : All IsLine lines
 
--- Those are all lines of the bytes that end in a line feed.
+-- The lines are all that end in a line feed among the bytes.
 pub record AreEnded (bytes : List ℕ) (lines : List (List ℕ)) : Type 0 where
   pub rest : List ℕ
   pub starts : StartsWith bytes lines rest
@@ -27,7 +27,7 @@ abbrev pub last_line : List ℕ → List (List ℕ)
 last_line [] = []
 last_line (byte ∷ bytes) = (byte ∷ bytes) ∷ []
 
--- Those are all lines of the bytes: those that end in a line feed, and a last one that is not empty.
+-- The lines are all of the bytes: those that end in a line feed, and a last one that is not empty.
 pub record AreLines (bytes : List ℕ) (lines : List (List ℕ)) : Type 0 where
   pub whole : List (List ℕ)
   pub rest : List ℕ
@@ -35,13 +35,13 @@ pub record AreLines (bytes : List ℕ) (lines : List (List ℕ)) : Type 0 where
   pub no_more : IsLine rest
   pub lines_are : lines ≡ whole ++ last_line rest
 
--- It is a line among the first bytes, as many as the limit, that ends in a line feed.
+-- The line ends in a line feed, with which it lies within the limit of a file of jobs.
 pub record IsEndedIn (held : List ℕ) (line : List ℕ) : Type 0 where
   pub earlier : List (List ℕ)
   pub behind : List ℕ
   pub starts : StartsWith (take jobs_limit held) (earlier ++ line ∷ []) behind
 
--- It is the last piece of a file within the limit, without a line feed, and not empty.
+-- The line is the last piece of a file within the limit, without a line feed, and not empty.
 pub record IsLastIn (held : List ℕ) (line : List ℕ) : Type 0 where
   pub fits : length held ≤ jobs_limit
   pub earlier : List (List ℕ)
@@ -49,16 +49,16 @@ pub record IsLastIn (held : List ℕ) (line : List ℕ) : Type 0 where
   pub no_more : IsLine line
   pub some : line ≢ []
 
--- It is a job of the file that holds the bytes.
+-- The line is a job of the file that holds the bytes.
 abbrev pub IsJobIn : List ℕ → List ℕ → Type 0
 IsJobIn held line = IsEndedIn held line ⊎ IsLastIn held line
 
--- These are all jobs of the file that holds the bytes, in their order: all its lines, or, where it has more bytes than the limit, those
+-- The jobs are all of the file that holds the bytes, in their order: all its lines, or, where it has more bytes than the limit, those
 -- that end in a line feed within it.
 abbrev pub AreJobs : List ℕ → List (List ℕ) → Type 0
 AreJobs held jobs =
     ((length held ≤ jobs_limit) × AreLines held jobs) ⊎ ((jobs_limit < length held) × AreEnded (take jobs_limit held) jobs)
 
--- These are its first jobs, in their order and with none left out.
+-- The lines are the first jobs of the file, in their order and with none left out.
 abbrev pub AreFirstJobs : List ℕ → List (List ℕ) → Type 0
 AreFirstJobs held lines = (more : List (List ℕ)) × AreJobs held (lines ++ more)

@@ -13,6 +13,6 @@ pub record MemorySinkState : Type 0 where
   -- how many writes have failed
   pub faults : ℕ
 
--- nothing taken yet
+-- a sink in memory that has taken nothing yet, with this room
 abbrev pub fresh_kept : ℕ → MemorySinkState
 fresh_kept room = record { taken = []; room = room; faults = 0 }

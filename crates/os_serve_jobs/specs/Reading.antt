@@ -71,7 +71,7 @@ pub record HasRead {J : Type 0} (view : FilesView J) (told : Option (List ℕ)) 
   pub given : view.given jobs ≡ length read
   pub stands : StandsBy view told faults jobs lines read (uncut reading) reading.source
 
--- The same was read, or more: whatever lines stood before those that wait, what was read and cut into both is cut into both still.
+-- The reading went on: lines that, with those that waited, were just what had been read are, with those that wait now, what is read now.
 abbrev pub ReadsOn : {J : Type 0} → FilesView J → (jobs_old jobs_new : J) → (reading_old reading_new : Reading)
     → (waiting_old waiting_new : List (List ℕ)) → Type 0
 ReadsOn view jobs_old jobs_new reading_old reading_new waiting_old waiting_new =

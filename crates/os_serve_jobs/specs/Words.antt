@@ -7,7 +7,7 @@ use Rattle.std.specs.Str.{IsUtf8}
 abbrev pub is_blank : ℕ → Bool
 is_blank byte = (byte == 32) || (byte == 9) || (byte == 13) || (byte == 10)
 
--- there is a byte
+-- whether a piece has any byte, so that it is a word
 abbrev pub is_some : List ℕ → Bool
 is_some [] = false
 is_some (byte ∷ bytes) = true

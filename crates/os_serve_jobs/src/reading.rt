@@ -22,7 +22,7 @@ pub struct Reading {
     pub(crate) piece: Vec<u8>,
     /// Where the part of the piece begins that is not cut yet.
     pub(crate) next: usize,
-    /// Where it ends.
+    /// Where the part of the piece ends that was read and is not cut yet.
     pub(crate) filled: usize,
     pub(crate) line: Vec<u8>,
     /// How many bytes were given, at most one more than the limit.

@@ -153,7 +153,7 @@ fn tell_all(
     Ok(Judged::Refused)
 }
 
-/// Tells a violation.
+/// Tells a violation at its token, or by its line alone where no token has it.
 fn tell_violation(
     out: &mut impl io::Write,
     alloc: Global,

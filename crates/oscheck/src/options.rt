@@ -27,7 +27,7 @@ pub(crate) enum Request {
     Complete,
     /// Only the first error or warning is told.
     First,
-    /// All of them are told.
+    /// All errors and warnings are told.
     All,
     /// Warnings are errors.
     Werror,

@@ -26,7 +26,7 @@ enum Wanted {
 pub(crate) struct SyntaxError<'a> {
     spot: Spot,
     wanted: Wanted,
-    /// What stands there.
+    /// The token that stands at the place, or that the text ends there.
     found: Word<'a>,
 }
 

@@ -140,7 +140,7 @@ fn warning_at(tokens: &[Token], uses: &Uses, place: usize) -> Option<Warning>
     }
 }
 
-/// Tells a warning.
+/// Tells a warning: its place, what is wrong there, and the line with a mark under the token.
 fn tell_warning(
     out: &mut impl io::Write,
     alloc: Global,

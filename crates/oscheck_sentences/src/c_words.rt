@@ -16,7 +16,7 @@ struct Words {
     sentence: &'static str,
 }
 
-/// They are keywords of C, which the lexer knows, so each is refused where it stands.
+/// What is said of keywords of C that no program has. The lexer knows them, so each is refused where it stands.
 static ROWS: [Words; 9] = [
     Words {
         words: &["char", "short", "long", "signed", "_Bool"],

@@ -21,7 +21,7 @@ pub(crate) fn last(front: &[Token]) -> Option<Kind> {
     Some(token.kind)
 }
 
-/// Whether tokens end so.
+/// Whether the last token is of this kind.
 pub(crate) fn ends_with(front: &[Token], kind: Kind) -> bool {
     match front.last() {
         Some(token) => token.kind == kind,

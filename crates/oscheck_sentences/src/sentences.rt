@@ -9,7 +9,7 @@ use std::io;
 #[derive(Clone, Copy)]
 pub struct Sentence {
     before: &'static str,
-    /// Whether the word is told.
+    /// Whether the sentence names the word.
     is_told: bool,
     after: &'static str,
 }

@@ -25,7 +25,7 @@ burst_window bracket.Burst w = window_of w
 abbrev pub burst_slot : (ℕ → Option What) → Extent → Option ℕ
 burst_slot means e = burst_window e.bracket (means e.place)
 
--- an amount isn't a number
+-- whether an amount is another number than the size
 abbrev pub is_other : ℕ → Amount → Bool
 is_other size (amount.Number n) = not (size == n)
 is_other size amount.BelowZero = true
@@ -45,6 +45,6 @@ is_wrong_for sizes (Some slot) burst = differs (sizes slot) burst
 abbrev pub is_wrong : (ℕ → Option Amount) → (ℕ → Option What) → Extent → Bool
 is_wrong sizes means e = is_wrong_for sizes (burst_slot means e) e.amount
 
--- the sizes of all windows
+-- each slot has the size that the list gives the window there
 abbrev pub AreSizes : List Extent → (ℕ → Option What) → Sizes → Type 0
 AreSizes list means sizes = (slot : ℕ) → sized sizes slot ≡ size_of list means slot

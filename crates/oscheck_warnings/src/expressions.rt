@@ -33,7 +33,7 @@ pub(crate) fn expr(list: &mut List<Access>, site: Site, expr: &Expr) -> Result<(
     }
 }
 
-/// A name with an index or without.
+/// Adds the accesses of a name with an index or without: those of the index, and that of the name.
 #[cycle(exprs)]
 #[tactic(auto, using(crate::proofs::Joined::joining))]
 fn target(
@@ -54,7 +54,7 @@ fn target(
     }
 }
 
-/// The arguments of a call.
+/// Adds the accesses of a call's arguments.
 #[cycle(exprs)]
 #[tactic(auto, using(crate::proofs::Joined::joining))]
 pub(crate) fn args(list: &mut List<Access>, site: Site, args: &List<Expr>) -> Result<(), Memory>
@@ -66,7 +66,7 @@ pub(crate) fn args(list: &mut List<Access>, site: Site, args: &List<Expr>) -> Re
     Ok(())
 }
 
-/// The links of a chain.
+/// Adds the accesses of the operands behind a chain's first one.
 #[cycle(exprs)]
 #[tactic(auto, using(crate::proofs::Joined::joining))]
 fn linked(list: &mut List<Access>, site: Site, links: &List<Link>) -> Result<(), Memory>
@@ -78,7 +78,7 @@ fn linked(list: &mut List<Access>, site: Site, links: &List<Link>) -> Result<(),
     Ok(())
 }
 
-/// An expression that may be left out.
+/// Adds the accesses of an expression that may be left out.
 #[tactic(auto, using(crate::proofs::Joined::joining))]
 pub(crate) fn value(list: &mut List<Access>, site: Site, value: &Option<Expr>) -> Result<(), Memory>
     ensures { OnOk result (list.new ≡ list.old ++ value_accesses site (option_map expr_tree value.now)) }
@@ -105,7 +105,7 @@ pub(crate) fn change(list: &mut List<Access>, site: Site, change: &Change) -> Re
     }
 }
 
-/// A change that may be left out.
+/// Adds the accesses of a change that may be left out.
 #[tactic(auto, using(crate::proofs::Joined::joining))]
 pub(crate) fn step(list: &mut List<Access>, site: Site, step: &Option<Change>) -> Result<(), Memory>
     ensures { OnOk result (list.new ≡ list.old ++ step_accesses site (option_map change_tree step.now)) }
@@ -116,7 +116,7 @@ pub(crate) fn step(list: &mut List<Access>, site: Site, step: &Option<Change>) -
     }
 }
 
-/// The first values of declarators.
+/// Adds the accesses of the first values of declarators.
 #[tactic(auto, using(crate::proofs::Joined::joining))]
 pub(crate) fn declarators(
     list: &mut List<Access>,
@@ -131,7 +131,7 @@ pub(crate) fn declarators(
     Ok(())
 }
 
-/// What stands before the first semicolon in the head of a `for`.
+/// Adds the accesses of what stands before the first semicolon in the head of a `for`.
 #[tactic(auto, using(crate::proofs::Joined::joining))]
 pub(crate) fn start(list: &mut List<Access>, site: Site, start: &Start) -> Result<(), Memory>
     ensures { OnOk result (list.new ≡ list.old ++ start_accesses site (start_tree start.now)) }

@@ -15,7 +15,7 @@ use os_ast::{Clause, ClauseItem, ClauseKind, Declarator, Item, Join, Program, St
 use os_io::{List, Memory};
 use std::alloc::Global;
 
-/// A constant in brackets, where one stands there.
+/// Adds what stands in brackets at a place, where it is a constant.
 fn add(
     list: &mut List<Extent>,
     place: u32,
@@ -34,7 +34,7 @@ fn add(
     }
 }
 
-/// The sizes of declarators.
+/// Adds those sizes of declarators that are constants.
 #[tactic(auto, using(crate::proofs::Joined::joining))]
 fn declarators(
     list: &mut List<Extent>,
@@ -50,7 +50,7 @@ fn declarators(
     Ok(())
 }
 
-/// The burst behind an arrow, where something stands there.
+/// Adds the burst behind an item's arrow, where a constant stands there.
 fn join(list: &mut List<Extent>, meanings: &Meanings, join: &Option<Join>) -> Result<(), Memory>
     ensures { OnOk result (list.new ≡ list.old ++ join_extents (what_at meanings.now) (option_map join_tree join.now)) }
 {
@@ -63,7 +63,7 @@ fn join(list: &mut List<Extent>, meanings: &Meanings, join: &Option<Join>) -> Re
     }
 }
 
-/// The bursts of output items.
+/// Adds those bursts of output items that are constants.
 #[tactic(auto, using(crate::proofs::Joined::joining))]
 fn items(
     list: &mut List<Extent>,
@@ -78,7 +78,7 @@ fn items(
     Ok(())
 }
 
-/// The bursts of what a clause lists.
+/// Adds the bursts of a clause, where it is an `output`.
 fn kind(list: &mut List<Extent>, meanings: &Meanings, kind: &ClauseKind) -> Result<(), Memory>
     ensures { OnOk result (list.new ≡ list.old ++ kind_extents (what_at meanings.now) (clause_kind_tree kind.now)) }
 {
@@ -88,7 +88,7 @@ fn kind(list: &mut List<Extent>, meanings: &Meanings, kind: &ClauseKind) -> Resu
     }
 }
 
-/// The bursts of clauses.
+/// Adds the bursts of the `output` clauses among these.
 #[tactic(auto, using(crate::proofs::Joined::joining))]
 fn clauses(
     list: &mut List<Extent>,
@@ -103,7 +103,7 @@ fn clauses(
     Ok(())
 }
 
-/// A statement or a declaration.
+/// Adds the sizes and bursts that stand in a statement or a declaration.
 #[cycle(extents)]
 #[tactic(auto, using(crate::proofs::Joined::joining))]
 fn stmt(list: &mut List<Extent>, meanings: &Meanings, stmt: &Stmt) -> Result<(), Memory>
@@ -130,7 +130,7 @@ fn stmt(list: &mut List<Extent>, meanings: &Meanings, stmt: &Stmt) -> Result<(),
     }
 }
 
-/// The statements and declarations of a block.
+/// Adds the sizes and bursts that stand in the statements and declarations of a block.
 #[cycle(extents)]
 #[tactic(auto, using(crate::proofs::Joined::joining))]
 fn stmts(list: &mut List<Extent>, meanings: &Meanings, stmts: &List<Stmt>) -> Result<(), Memory>
@@ -142,7 +142,7 @@ fn stmts(list: &mut List<Extent>, meanings: &Meanings, stmts: &List<Stmt>) -> Re
     Ok(())
 }
 
-/// What stands behind `else`, where there is one.
+/// Adds the sizes and bursts of what stands behind `else`, where there is one.
 #[cycle(extents)]
 #[tactic(auto, using(crate::proofs::Joined::joining))]
 fn otherwise(
@@ -158,7 +158,7 @@ fn otherwise(
     }
 }
 
-/// A constant or a function.
+/// Adds the sizes and bursts that stand in an item of the program.
 fn item(list: &mut List<Extent>, meanings: &Meanings, item: &Item) -> Result<(), Memory>
     ensures { OnOk result (list.new ≡ list.old ++ item_extents (what_at meanings.now) (item_tree item.now)) }
 {

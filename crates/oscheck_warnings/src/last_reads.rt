@@ -27,7 +27,7 @@ pub(crate) struct LastReads {
 impl Cell {
     ghost use Rattle.std.specs.Prelude.{◌≡◌, ltb};
 
-    /// Whether it is one of a task at all.
+    /// Whether the scalar is one of a task at all.
     pub(crate) fn is_in_task(self) -> bool
         ensures { result ≡ ltb 0 self.task }
     {
@@ -57,7 +57,7 @@ impl LastReads {
         Ok(())
     }
 
-    /// Notes the same of an access that may read no scalar: then it notes nothing.
+    /// Does what `add` does where the access reads a scalar, and nothing where it reads none.
     fn add_if(&mut self, cell: Option<Cell>, index: usize) -> Result<(), Memory>
         ensures { OnOk result ((task slot : ℕ) → last_read self.new task slot
             ≡ (if is_cell cell task slot then Some index else last_read self.old task slot)) }

@@ -24,7 +24,7 @@ fn first_elsewhere(tokens: &[Token], place: usize) -> Option<usize>
     }
 }
 
-/// Which first names are spelled once more, place by place.
+/// For each place, whether the name that stands there first is spelled at another place too.
 #[tactic(auto, using(crate::proofs::Repeated::repeated))]
 pub fn repeated_names(alloc: Global, tokens: &[Token]) -> Result<Vec<bool>, Memory>
     ensures { IfOk result (λ marks. AreRepeated tokens.now marks.items) }

@@ -12,7 +12,7 @@ use os_ast::{Head, Item, Program, Stmt};
 use os_io::{List, Memory};
 use std::alloc::Global;
 
-/// A statement or a declaration.
+/// Adds the accesses of a statement or a declaration.
 #[cycle(stmts)]
 #[tactic(auto, using(crate::proofs::Joined::joining))]
 fn stmt(list: &mut List<Access>, site: Site, stmt: &Stmt) -> Result<(), Memory>
@@ -41,7 +41,7 @@ fn stmt(list: &mut List<Access>, site: Site, stmt: &Stmt) -> Result<(), Memory>
     }
 }
 
-/// The statements and declarations of a block.
+/// Adds the accesses of the statements and declarations of a block.
 #[cycle(stmts)]
 #[tactic(auto, using(crate::proofs::Joined::joining))]
 fn stmts(list: &mut List<Access>, site: Site, stmts: &List<Stmt>) -> Result<(), Memory>
@@ -53,7 +53,7 @@ fn stmts(list: &mut List<Access>, site: Site, stmts: &List<Stmt>) -> Result<(), 
     Ok(())
 }
 
-/// What stands behind `else`, where there is one.
+/// Adds the accesses of what stands behind `else`, where there is one.
 #[cycle(stmts)]
 #[tactic(auto, using(crate::proofs::Joined::joining))]
 fn otherwise(list: &mut List<Access>, site: Site, second: &Option<Box<Stmt>>) -> Result<(), Memory>
@@ -78,7 +78,7 @@ fn for_loop(list: &mut List<Access>, site: Site, head: &Head, body: &Stmt) -> Re
     step(list, site.in_loop(), &head.step)
 }
 
-/// A constant or a function.
+/// Adds the accesses of an item of the program.
 fn item(list: &mut List<Access>, item: &Item) -> Result<(), Memory>
     ensures { OnOk result (list.new ≡ list.old ++ item_accesses (item_tree item.now)) }
 {

@@ -30,7 +30,7 @@ pub record Reached (f : Format) (before after : Moment) (payloads : List (List �
 
 -- what each answer says of the bytes that were read and written
 abbrev pub AnswersFor : {A : Type 0} → Format → Moment → Moment → Result A PackError → Type 0
--- the file is parts alone
+-- where all went well, the file has been read to its end and holds nothing but parts
 AnswersFor f before after (Ok _) =
     (payloads : List (List ℕ)) × Reached f before after payloads [] [] × IsAtEnd after.left
 -- behind the parts before it stands one that is refused; where that ends early, so does the file

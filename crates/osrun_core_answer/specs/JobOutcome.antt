@@ -118,7 +118,7 @@ pub record IsOutcomeOfTrace (contents : List (List ℕ)) (job : Job) (outcome : 
   pub report_is : outcome.told ≡ report run.control.activations (length run.input) run.ends run.control.end
   pub status_is : outcome.own ≡ status run.ends.ends run.control.end
 
--- what is meant to be given of a run
+-- what is meant to be given of a run: the output's bytes, its report and its status
 pub record GivesRun (run : ProgramRun) (outcome : JobOutcome) : Type 0 where
   pub output_is : outcome.output ≡ written run.ends.output
   pub report_is : outcome.told ≡ report run.control.activations (length run.input) run.ends run.control.end

@@ -142,7 +142,7 @@ abbrev pub MakesReplay : {F : Type 0} → FilesView F → F → F → ReplayJob 
 MakesReplay view old new job result =
     MatchResult result (IsReplayedOf view old new job) (IsUnmadeOf view old new (files_of (ReplayRequest job)))
 
--- the four lines were handed over, or memory was wanted and nothing was written
+-- the four lines were handed over, or memory ran out and nothing was written
 abbrev pub AnswersGen : {O E : Type 0} → SinkView O → O → O → SinkView E → E → E → GenJob → Status → Type 0
 AnswersGen of_out out_old out_new of_report report_old report_new job answered =
     ((outcome : JobOutcome) × IsOutcome [] (Gen job) outcome

@@ -21,7 +21,7 @@ use wait_certs::{Finding, find, finding_line};
 pub struct Explanation {
     /// One line, with its line feed.
     pub text: String,
-    /// Whether the activation is starved.
+    /// The status of the answer, which says whether the activation is starved.
     pub status: Status,
 }
 

@@ -51,14 +51,14 @@ pub record IsMisused (unusable : Misuse) {F : Type 0} (view : FilesView F) (old 
   pub refused : unusable file.subject bytes code line
   pub no_fault : view.faults new ≡ view.faults old
 
--- It is too long: one byte more than its limit was given, and no more was asked for.
+-- The file is too long: one byte more than its limit was given, and no more was asked for.
 pub record IsTooLong {F : Type 0} (view : FilesView F) (old new : F) (file : JobFile) (subject : Subject) : Type 0 where
   pub named : subject ≡ file.subject
   pub too_many : view.given new ≡ limit_of file.subject + 1
   pub held : IfSome (view.holds old file.name) (λ told. limit_of file.subject < length told)
   pub no_fault : view.faults new ≡ view.faults old
 
--- It could not be read: the files counted a fault.
+-- The file could not be read: a fault was counted.
 pub record IsUnread {F : Type 0} (view : FilesView F) (old new : F) (file : JobFile) (subject : Subject) : Type 0 where
   pub named : subject ≡ file.subject
   pub within : view.given new ≤ limit_of file.subject

@@ -13,7 +13,7 @@ use Rattle.osrun_core_jobs.specs.declared.status.Status.TheVariants as status
 abbrev pub usage_line : List ℕ
 usage_line = ended_line (codes "usage")
 
--- where in the bytes they are refused
+-- the words that tell a line, where there is one
 abbrev pub line_text : Option ℕ → List ℕ
 line_text at = option_map_or (λ number. codes " line " ++ decimal number) at []
 

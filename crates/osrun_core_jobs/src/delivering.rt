@@ -7,7 +7,7 @@ use os_io::{Sink, WriteError, write_whole};
 
 /// Lines that can be written, as a report is. Nothing of them need be in memory.
 pub trait Lines {
-    // Whether they are this text.
+    // Whether the lines, written one behind another, are this text.
     ghost tells: { Self → List ℕ → Type 0 };
 
     /// Writes the lines. It takes no memory.

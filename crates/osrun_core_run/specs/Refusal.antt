@@ -38,7 +38,7 @@ abbrev pub IsNoObject : List ℕ → ℕ → Type 0
 IsNoObject bytes code = ((code ≡ no_parts) × ((parts : Parts) → Spells bytes parts → ⊥))
     ⊎ ((code ≡ not_valid) × ((parts : Parts) × Spells bytes parts × (IsValid parts → ⊥)))
 
--- They are refused as such a file: a text by a code and a line, those of its first fault, of the place where it stops being the
+-- The bytes are refused as a file of this kind: a text by a code and a line, those of its first fault, of the place where it stops being the
 -- front of a program, or of its least violation. No input is refused. An object is refused by a code alone. A trace
 -- is refused by `no_trace` and its first line that isn't a trace's.
 abbrev pub IsUnusable : Subject → List ℕ → ℕ → Option ℕ → Type 0

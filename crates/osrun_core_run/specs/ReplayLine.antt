@@ -20,7 +20,7 @@ pub record IsCellOf (plan : Plan) (activations : List Activation) (frame cell : 
 abbrev pub stranger_line : (list place : ℕ) → List ℕ
 stranger_line list place = ended_line (codes "stranger " ++ decimal list ++ codes " place " ++ decimal place)
 
--- the activation that stands twice
+-- the line that tells which activation stands twice in the lists
 abbrev pub repeat_line : ℕ → List ℕ
 repeat_line frame = ended_line (codes "repeat " ++ decimal frame)
 

@@ -28,7 +28,7 @@ use window_check::Checked;
 pub enum Replay {
     /// The lists are whole: the activations ran in an order that the lists allow, and none is left that could run. This is the run.
     Whole(MadeRun),
-    /// They aren't: one line, with its line feed, tells why.
+    /// The lists are not whole: one line, with its line feed, tells why.
     Told(String),
 }
 

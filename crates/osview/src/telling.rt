@@ -27,7 +27,7 @@ The statuses are those of osrun run: 0 where all is done, 1 where not all is, 2 
 the program has, and 3 to 7 where there is no run.
 ";
 
-/// How a telling ended.
+/// This status, or that of a failed write where the text couldn't be told.
 fn status_of(told: io::Result<()>, status: Status) -> Status {
     match told {
         Ok(()) => status,

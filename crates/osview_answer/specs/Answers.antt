@@ -31,7 +31,7 @@ pub record IsHandedOver {O E : Type 0} (Makes : (told : List ℕ) (own : ℕ) �
   pub made : Makes told (status_code own)
   pub handed : HandsOver of_out out_old out_new told of_report report_old report_new [] own answered
 
--- One of the files is the cause, or memory was wanted; that is told, and nothing was written on the output.
+-- A file is the cause that there is no run, or memory ran out; the report says so, and nothing was written on the output.
 pub record IsFileRefused {F O E : Type 0} (of_files : FilesView F) (files_old files_new : F) (out_old out_new : O)
     (of_report : SinkView E) (report_old report_new : E) (job : Job) (answered : Status) : Type 0 where
   pub refusal : Refusal

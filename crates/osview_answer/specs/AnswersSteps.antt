@@ -21,7 +21,7 @@ pub record AreMeasured {F : Type 0} (of_files : FilesView F) (files_old files_ne
   pub read : WereRead IsUsable of_files files_old files_new (files_of (Run job)) (text ∷ input ∷ [])
   pub are_steps : AreStepsOf job.task_budget job.control_budget text input told own
 
--- both files were read and the steps are told, or one of the files is the cause, or memory was wanted
+-- both files were read and the steps are told, or one of the files is the cause, or memory ran out
 abbrev pub MakesSteps : {F : Type 0} → FilesView F → F → F → Job → Result RunAnswer Refusal → Type 0
 MakesSteps view old new job result = MatchResult result
     (λ told. AreMeasured view old new job told.text.items (status_code told.status)) (IsUnmadeOf view old new (files_of (Run job)))

@@ -37,7 +37,7 @@ pub record IsUnnamed {F : Type 0} (of_files : FilesView F) (files_old files_new 
   pub read : WereRead IsUsable of_files files_old files_new (files_of (Run job)) (text ∷ input ∷ [])
   pub none : NamesNone text asked.name
 
--- It was told that no stream has the name, the status is 2, and nothing was written on the output.
+-- The report says that no stream has the name that was asked for, the status is 2, and nothing was written on the output.
 pub record IsToldSo {F O E : Type 0} (of_files : FilesView F) (files_old files_new : F) (out_old out_new : O)
     (of_report : SinkView E) (report_old report_new : E) (job : Job) (asked : Asked) (answered : Status) : Type 0 where
   pub unnamed : IsUnnamed of_files files_old files_new job asked

@@ -16,7 +16,7 @@ use Rattle.osview_graph.specs.declared.drawn.GraphChoice.{GraphChoice}
 abbrev pub site_lines : Parts → List ℕ
 site_lines code = map (λ (s : Site). s.line) code.sites
 
--- both files were read and the graph is drawn, or one of the files is the cause, or memory was wanted
+-- both files were read and the graph is drawn, or one of the files is the cause, or memory ran out
 abbrev pub MakesGraph : {F : Type 0} → FilesView F → F → F → Job → GraphChoice → Result RunAnswer Refusal → Type 0
 MakesGraph of_files old new job view result = MatchResult result
     (λ told. IsGraphMade of_files old new job view told.text.items (status_code told.status)) (IsUnmadeOf of_files old new (files_of (Run job)))

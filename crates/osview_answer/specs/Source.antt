@@ -40,7 +40,7 @@ ReadsSource view old new name result = MatchResult result
     (λ refusal. Opened view old new (record { subject = subjects.Program; name = name })
     × IsFailed IsUnusable view old new (record { subject = subjects.Program; name = name }) refusal)
 
--- both files were read and the run is told, or one of the files is the cause, or memory was wanted
+-- both files were read and the run is told, or one of the files is the cause, or memory ran out
 abbrev pub Makes : {F : Type 0} → FilesView F → F → F → Job → Result RunAnswer Refusal → Type 0
 Makes view old new job result = MatchResult result
     (λ told. IsMade view old new job told.text.items (status_code told.status)) (IsUnmadeOf view old new (files_of (Run job)))

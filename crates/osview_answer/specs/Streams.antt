@@ -22,11 +22,11 @@ IsTold task_budget control_budget text input asked (told.Elements told) =
     AreElementsOf task_budget control_budget text input asked.name asked.first asked.count told.text.items (status_code told.status)
 IsTold task_budget control_budget text input asked (told.Unnamed bytes) = NamesNone text asked.name × (bytes.items ≡ unnamed_line asked.name)
 
--- both files were read, and that is told
+-- both files were read, and the answer says what there is of the stream, or that no stream has the name
 abbrev pub IsToldOf : {F : Type 0} → FilesView F → F → F → Job → Asked → StreamTold → Type 0
 IsToldOf view old new job asked (told.Elements told) = AreMade view old new job asked told.text.items (status_code told.status)
 IsToldOf view old new job asked (told.Unnamed bytes) = IsUnnamed view old new job asked × (bytes.items ≡ unnamed_line asked.name)
 
--- both files were read and that is told, or one of the files is the cause, or memory was wanted
+-- both files were read and the stream is told, or that none has the name; or one of the files is the cause, or memory ran out
 abbrev pub MakesStream : {F : Type 0} → FilesView F → F → F → Job → Asked → Result StreamTold Refusal → Type 0
 MakesStream view old new job asked result = MatchResult result (IsToldOf view old new job asked) (IsUnmadeOf view old new (files_of (Run job)))

@@ -24,7 +24,7 @@ pub record Raises (plan : Plan) (low high from least : ℕ) (old new : List ℕ)
   pub raised : (g : ℕ) → Feeds plan low high from g → least ≤ slice_index new g
   pub others : (g : ℕ) → (slice_index new g ≡ slice_index old g) ⊎ ((slice_index new g ≡ least) × Feeds plan low high from g)
 
--- 0, or the steps of a chain of those that something holds of
+-- a number that is 0, or the steps of a chain that begins with a frame of which `holds` is true
 pub data IsOfChain (reads : ℕ → List Source) (steps : List (Option ℕ)) (holds : ℕ → Type 0) (n : ℕ) : Type 0 where
   nothing : n ≡ 0 → IsOfChain reads steps holds n
   chain : (b : ℕ) (rest : List ℕ) → IsChainFrom reads steps b rest → holds b → chain_steps steps (b ∷ rest) ≡ n → IsOfChain reads steps holds n

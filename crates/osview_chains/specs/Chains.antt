@@ -4,7 +4,7 @@ use Rattle.std.specs.Option.{option_map_or}
 use Rattle.flow_core_laws.specs.Element.{Source}
 use Rattle.osview_outcomes.specs.Order.{WaitsFor}
 
--- the steps of one; 0 where it never ran
+-- the steps of a frame; 0 where it never ran
 abbrev pub steps_at : List (Option ℕ) → ℕ → ℕ
 steps_at steps a = option_map_or (λ n. n) (slice_index_or steps a None) 0
 

@@ -31,7 +31,7 @@ abbrev pub greatest : List ℕ → ℕ
 greatest [] = 0
 greatest (n ∷ ns) = fold max n ns
 
--- numbers from one to another
+-- two numbers as text with ` to ` between them, or one where both are the same
 abbrev pub span_text : (low high : ℕ) → List ℕ
 span_text low high = if low == high then decimal low else decimal low ++ codes " to " ++ decimal high
 

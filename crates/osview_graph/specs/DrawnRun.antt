@@ -34,7 +34,7 @@ is_trapped (Some (Trapped code line)) = true
 is_trapped (Some OverBudget) = false
 is_trapped (Some (Poisoned root)) = false
 
--- whether it used up its turns
+-- whether an activation with this end used up its turns
 abbrev pub is_over_budget : Option TaskEnd → Bool
 is_over_budget None = false
 is_over_budget (Some Done) = false
@@ -42,7 +42,7 @@ is_over_budget (Some (Trapped code line)) = false
 is_over_budget (Some OverBudget) = true
 is_over_budget (Some (Poisoned root)) = false
 
--- whether it never ran, since what it reads is poison
+-- whether an activation with this end never ran, since what it reads is poison
 abbrev pub is_poisoned : Option TaskEnd → Bool
 is_poisoned None = false
 is_poisoned (Some Done) = false
@@ -50,12 +50,12 @@ is_poisoned (Some (Trapped code line)) = false
 is_poisoned (Some OverBudget) = false
 is_poisoned (Some (Poisoned root)) = true
 
--- whether it is starved: it has no end
+-- whether an activation is starved: it has no end
 abbrev pub is_starved : Option TaskEnd → Bool
 is_starved None = true
 is_starved (Some end) = false
 
--- whether it ran, so that it read all elements of its input windows
+-- whether an activation with this end ran, so that it read all elements of its input windows
 abbrev pub has_run : Option TaskEnd → Bool
 has_run None = false
 has_run (Some Done) = true
@@ -75,6 +75,6 @@ end_word (Some (Poisoned root)) = codes "poisoned"
 abbrev pub total : (belongs_to amount : ℕ → ℕ) → (count one : ℕ) → ℕ
 total belongs_to amount count one = sum_by (λ k. if belongs_to k == one then amount k else 0) (range_with_len 0 count)
 
--- How many activations of a task ended so.
+-- How many activations of a task have an end, or none, of which `so` is true.
 abbrev pub ended_so : DrawnRun → (Option TaskEnd → Bool) → (task : ℕ) → ℕ
 ended_so run so task = total (task_at run) (λ a. if so (end_at run a) then 1 else 0) (length run.activations) task

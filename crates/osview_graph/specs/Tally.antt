@@ -34,7 +34,7 @@ with_use (Some s) u = record {
   greatest_burst = max s.greatest_burst u.burst;
 }
 
--- what is left of those that are like one
+-- the sizes that are still to be drawn of the uses that are like this one
 abbrev pub left : Tally → Use → Option Sizes
 left tally u = get (item_order.ghosts).cmp tally.sizes (item_of u)
 

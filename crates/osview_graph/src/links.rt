@@ -215,7 +215,7 @@ fn first_window(drawn: &Drawn<'_>, activation: u64) -> usize
     drawn.layout.starts.as_slice()[activation as usize] as usize
 }
 
-/// Adds an activation.
+/// Adds the box of an activation, and the arrows to its windows.
 fn add_activation(
     told: &mut Text,
     drawn: &Drawn<'_>,

@@ -18,11 +18,11 @@ use stream_match_layouts::Span;
 /// What is counted of streams.
 #[derive(Drop)]
 pub(crate) struct StreamCounts {
-    /// How many windows there are on each.
+    /// How many windows there are on each stream.
     pub(crate) windows: Vec<u64>,
-    /// How many elements of each are there.
+    /// How many elements of each stream are there.
     pub(crate) written: Vec<u64>,
-    /// How many of them were read.
+    /// How many of those elements were read.
     pub(crate) read: Vec<u64>,
 }
 

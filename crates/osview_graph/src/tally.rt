@@ -74,7 +74,7 @@ impl Tally {
         }
     }
 
-    /// What is left of those that are like one.
+    /// The sizes that are still to be drawn of the uses that are like this one.
     fn left(&self, one: Use) -> Option<Sizes>
         ensures { result ≡ left self.now one }
     {

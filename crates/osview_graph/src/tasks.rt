@@ -19,7 +19,7 @@ fn one_if(counted: bool) -> u64
     if counted { 1 } else { 0 }
 }
 
-/// How many activations of each task ended so.
+/// How many activations of each task ended in this way.
 fn counts(alloc: Global, drawn: &Drawn<'_>, ending: Ending) -> Result<Vec<u64>, Memory>
     ensures { IfOk result (λ counts. counts.items
         ≡ map (ended_so (run_of drawn.now) (is_so ending)) (range_with_len 0 (length drawn.now.lines.now))) }

@@ -2,7 +2,7 @@
 use Rattle.std.specs.Prelude.{◌≡◌, ℕ, ◌<◌, List, Contains, length, slice_index}
 use Rattle.flow_core_laws.specs.Element.{Source, fed}
 
--- One waits for another: something that it reads is an element that the other one writes. `reads` says from where each has its inputs.
+-- One frame waits for another: something that it reads is an element that the other one writes. `reads` says from where each has its inputs.
 pub record WaitsFor (reads : ℕ → List Source) (a b : ℕ) : Type 0 where
   pub place : ℕ
   pub is_read : Contains (reads a) (fed b place)

@@ -3,7 +3,7 @@
 pub enum Supply {
     /// The input, which has ended before it.
     Ended,
-    /// No activation.
+    /// No activation: none claims the position for writing.
     Nobody,
     /// The activation that waits for it.
     Itself,

@@ -9,7 +9,7 @@ use Rattle.osview_text.specs.Numbers.{least}
 abbrev pub nothing_counted : Tally
 nothing_counted = record { activations = 0; ran = 0; least = 0; most = 0; sum = 0; turns = 0 }
 
--- one more activation, with what it took if it ran
+-- a tally with one more activation in it, and with the steps and turns that it took if it ran
 abbrev pub counted : Tally → Option Taken → Tally
 counted t None = record { activations = t.activations + 1; ran = t.ran; least = t.least; most = t.most; sum = t.sum; turns = t.turns }
 counted t (Some taken) = record {

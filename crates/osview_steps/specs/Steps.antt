@@ -42,7 +42,7 @@ pub record AreRuns (code : Parts) (activations : List Activation) (input : List 
       → Takes code activations input budget meaning a x taken
   pub never_ran : (a : ℕ) (r : TaskRun) → slice_get runs a ≡ Some r → r.took ≡ None → has_run (slice_index_or (ends_of meaning) a None) ≡ false
 
--- the steps alone
+-- the steps that an activation took, if it ran
 abbrev pub steps_if : Option Taken → Option ℕ
 steps_if None = None
 steps_if (Some taken) = Some taken.steps

@@ -41,7 +41,7 @@ impl Tally {
         }
     }
 
-    /// This with one more activation, with what it took if it ran.
+    /// The tally with one more activation in it, and with the steps and turns that it took if it ran.
     fn with(self, took: Option<Taken>) -> Tally
         requires { IsSmall last_activation self }
         ensures exact { result ≡ counted self took }

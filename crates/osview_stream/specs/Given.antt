@@ -1,4 +1,4 @@
--- What is kept of a run gives an element.
+-- Which elements an activation gives, by the outcomes that are kept of a run.
 use Rattle.std.specs.Prelude.{ℕ, [], None, Option, option_and_then, slice_index_or}
 use Rattle.flow_core_laws.specs.Element.{output_element}
 use Rattle.flow_core_laws.specs.Outcome.{root_of}

@@ -43,7 +43,7 @@ enum Told<'a> {
     /// The list, its head, and the cell.
     Stuck(u32, u32, u32),
     Repeat(u32),
-    /// The list and the place.
+    /// The list, and the place in it.
     Stranger(u32, u32),
 }
 

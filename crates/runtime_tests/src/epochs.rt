@@ -41,7 +41,7 @@ impl Case<'_> {
         Ok(())
     }
 
-    /// Whether this is the plan.
+    /// Whether the epoch has the plan that the case says.
     fn is(&self, rt: &impl Abort, epoch: &EpochPlan) {
         let plan = &epoch.plan;
         assert!(rt; epoch.frames.as_slice() == self.numbers);
@@ -54,7 +54,7 @@ impl Case<'_> {
     }
 }
 
-/// Whether these are the places.
+/// Whether these places are the ones that are wanted.
 fn are_places(rt: &impl Abort, found: &[Place], wanted: &[(u32, u64)]) {
     assert!(rt; found.len() == wanted.len());
     for (place, (stream, position)) in found.iter().zip(wanted) {

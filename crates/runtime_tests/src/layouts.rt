@@ -36,7 +36,7 @@ struct Case<'a> {
 }
 
 impl Case<'_> {
-    /// Whether all is found so.
+    /// Whether the layout of the case's activations, and the plan over it, are as the case says.
     fn holds(&self, rt: &(impl AllocGlobal + Abort)) -> Result<(), Fail> {
         let (streams, input_len) = (count_of(self.writers.len()), count_of(self.input.len()));
         let layout = layout_of(rt.alloc(), streams, input_len, self.tasks)?;

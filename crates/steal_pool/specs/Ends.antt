@@ -25,11 +25,11 @@ own_shows line = record {
   left = if (worker_view line.owner).fraction == whole then Some (length (worker_view line.owner).pushed - length (worker_view line.owner).taken) else None;
 }
 
--- a thief's end
+-- what a thief's end of a deque shows of its line
 abbrev pub steal_shows : StealLine → LineState
 steal_shows line = record { finds = line.finds; races = line.races; bound = (view line.pass).bound; handed_out = (view line.pass).taken; left = None }
 
--- what names a deque
+-- the identity of a deque, which all its ends share
 abbrev pub Deque : Type 0
 Deque = RowsId × Global
 

@@ -92,7 +92,7 @@ EpochPlansAreSound =
     → IsLayout layout → IsLayoutOf layout activations → AscendInLayout layout frames → WrittenOutside activations frames kept
     → IsEpochPlanOf layout input frames kept cursors plan places → IsSound plan
 
--- And it stands for the epoch, where the cursors say what is still read.
+-- Each such plan stands for its epoch, where the cursors say what is still read.
 abbrev pub EpochPlansStand : Type 0
 EpochPlansStand =
     (layout : Layout) (input : List ℕ) (readers frames : List ℕ) (kept : List Kept) (cursors : List ℕ) (plan : Plan) (places : List Place)
@@ -112,7 +112,7 @@ GoesOn layout input frames kept plan =
     → put_over (stream_meaning before input body) frames (epoch_meaning plan frames body) (length (before ++ new))
     ≡ stream_meaning (before ++ new) input body
 
--- And so does one that leaves out of the readers what gets no outcome from all activations either.
+-- A plan also goes on if it leaves out of the readers those that get no outcome from all activations either.
 abbrev pub GoesOnFor : Layout → List ℕ → (readers frames : List ℕ) → List Kept → Plan → Type 0
 GoesOnFor layout input readers frames kept plan =
     (before new : List Activation) (body : ℕ → List ℤ → Outcome)
@@ -122,7 +122,7 @@ GoesOnFor layout input readers frames kept plan =
     → put_over (stream_meaning before input body) frames (epoch_meaning plan frames body) (length (before ++ new))
     ≡ stream_meaning (before ++ new) input body
 
--- So it goes on where the activations before it stopped: where all activations of the layout are those that were run and
+-- The plan of an epoch goes on so: where all activations of the layout are those that were run and
 -- new ones, the readers are all that have no outcome yet, and what is left out of them gets none, the plan's meaning, put
 -- over the meaning of those that were run, is the meaning of all, poison included.
 abbrev pub EpochPlansGoOn : Type 0

@@ -10,7 +10,7 @@ use Rattle.stream_match.specs.declared.kept.Kept.{Kept}
 abbrev pub kept_of : Kept → epoch.Kept
 kept_of k = record { place = record { stream = k.stream; position = k.position }; value = k.value }
 
--- What is kept lies outside of the frames, for some activations of the layout.
+-- For some activations that the layout is of, each kept element was written by one that is no frame.
 pub record IsKeptOutside (layout : Layout) (frames : List ℕ) (kept : List epoch.Kept) : Type 0 where
   pub activations : List Activation
   pub is_of : IsLayoutOf layout activations

@@ -23,7 +23,7 @@ pub(crate) fn frame_tally(layout: &Layout, frame: usize) -> Tally
     tally_of(layout.spans_of(frame))
 }
 
-/// The tally of spans.
+/// How many elements spans read, and how many they write.
 fn tally_of(spans: &[Span]) -> Tally
     requires { sum_by (λ (s : Span). s.count) spans.now < 2 ^ 32 }
     ensures inputs { result.inputs ≡ sum_by read_count spans.now }

@@ -10,7 +10,7 @@ pub record HasRoom (layout : Layout) (claim : Claim) : Type 0 where
   pub cursors : HasCursors layout.cursors claim
   pub spans_are_few : length layout.spans < 2 ^ 32
 
--- the writers after a claim
+-- the numbers of the write spans of each stream, behind one more claim
 abbrev pub writers_after : Layout → Claim → List (List ℕ)
 writers_after layout claim =
     if claim.write then slice_set layout.writers claim.stream (slice_index_or layout.writers claim.stream [] ++ length layout.spans ∷ []) else layout.writers

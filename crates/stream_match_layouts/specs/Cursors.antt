@@ -27,7 +27,7 @@ span_by cursors frame claim offset = record {
   offset = offset;
 }
 
--- the cursors behind it
+-- the cursors behind a claim
 abbrev pub moved_by : Cursors → Claim → Cursors
 moved_by cursors claim = record {
   reads = if claim.write then cursors.reads else slice_set cursors.reads claim.stream (first_of cursors claim + claim.burst);

@@ -10,7 +10,7 @@ use std::marker::Model;
 #[derive(Drop)]
 pub struct Scratch {
     pub(crate) stack: Vec<i32>,
-    /// It holds as many as the deepest call so far needed, and has memory for those of every chain of calls: what no task
+    /// The slots, as many as the deepest call so far needed, with memory for those of every chain of calls: what no task
     /// reaches isn't touched.
     pub(crate) slots: Room<i32>,
     pub(crate) callers: Vec<Caller>,

@@ -31,7 +31,7 @@ pub record LogServes (table : FrameTable) (seat : FrameSeat) (log : WorkLog) : T
   pub frames : left_of (frames_of table) (view_of seat).ran ≤ log.frames.spare
   pub windows : FitsWindows (known_of table).plan log
 
--- A worker may work.
+-- A worker may begin to work: it runs nothing, and its seat, its hand and its log are of this table and have room enough.
 pub record MayWork (table : FrameTable) (seat : FrameSeat) (hand : Hand) (log : WorkLog) : Type 0 where
   pub is_of_it : IsSeatOf table seat
   pub runs_nothing : (view_of seat).run ≡ None

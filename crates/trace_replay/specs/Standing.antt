@@ -53,7 +53,7 @@ pub record MayRun (board : Board) (frame : ℕ) : Type 0 where
   pub misses_nothing : slice_index board.waits.missing.items frame ≡ 0
   pub has_no_end : end_at board.ends.items frame ≡ None
 
--- the least such frame
+-- the least frame that may run
 pub record IsLeastFree (plan : Plan) (board : Board) (frame : ℕ) : Type 0 where
   pub exists : frame < length plan.frames
   pub may_run : MayRun board frame

@@ -4,7 +4,7 @@ use Rattle.trace_replay_text.specs.Trace.{IsFirstWrongLine}
 use Rattle.trace_replay_text.specs.declared.trace_error.TraceError.{TraceError}
 use Rattle.trace_replay_text.specs.declared.trace_error.TraceError.TheVariants.{Line, Memory}
 
--- the byte isn't among these
+-- the byte isn't in the text
 abbrev pub IsFree : ℕ → List ℕ → Type 0
 IsFree byte text = All (λ b. b ≢ byte) text
 
@@ -24,7 +24,7 @@ abbrev pub IsWrongAt : TraceError → ℕ → Type 0 → Type 0
 IsWrongAt (Line told) line Nothing = (told ≡ line) × Nothing
 IsWrongAt Memory line Nothing = Unit {0}
 
--- and for the whole text
+-- what is answered where a whole text isn't read as a trace: its first wrong line, or that memory was wanting
 abbrev pub IsTraceRefused : List ℕ → TraceError → Type 0
 IsTraceRefused text (Line line) = IsFirstWrongLine text line
 IsTraceRefused text Memory = Unit {0}

@@ -1,4 +1,4 @@
--- Which elements an activation awaits, as tests, the ends by which they are searched for, and marks of those that a walk has.
+-- Tests of which elements an activation awaits, the ends by which they are searched for, and marks of a walk's members.
 use Rattle.std.specs.Prelude.{◌≡◌, ℕ, ◌<◌, ◌⊎◌, ◌==◌, Bool, false, not, if◌then◌else◌, List, Option, None, Some, Contains, slice_index_or}
 use Rattle.std.specs.List.{list_any}
 use Rattle.std.specs.Option.{option_map_or}

@@ -54,7 +54,7 @@ fn walk_from(alloc: Global, layout: &Layout, ends: &Ends, frame: u32) -> Result<
     Ok(members)
 }
 
-/// Sets a mark.
+/// Marks an activation as a member of the walk.
 fn mark(marks: &mut List<bool>, member: u32)
     requires { member < length marks.old }
     ensures { marks.new ≡ slice_set marks.old member true }

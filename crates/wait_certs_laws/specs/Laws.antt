@@ -49,7 +49,7 @@ abbrev pub OneWalk : Type 0
 OneWalk = (activations : List Activation) (input_len : ℕ) (ends : List (Option TaskEnd)) (a : ℕ) (members others : List ℕ)
     → IsWalk activations input_len ends a members → IsWalk activations input_len ends a others → members ≡ others
 
--- there is such a chain that begins with an activation, and it is its walk
+-- there is a short chain that begins with the activation, and it is its walk
 abbrev pub HasChain : List Activation → ℕ → List (Option TaskEnd) → ℕ → Type 0
 HasChain activations input_len ends a =
     (chain : List ℕ) × (slice_get chain 0 ≡ Some a) × IsShortChain activations input_len chain × IsWalk activations input_len ends a chain

@@ -65,7 +65,7 @@ fn is_window(owner: Owner) -> bool
     }
 }
 
-/// The size of a declarator: that of a window is any expression.
+/// Judges the size of a declarator: that of a window is any expression.
 fn sized(
     scopes: &Scopes,
     found: &mut Found,
@@ -112,7 +112,7 @@ fn declarator(scopes: &mut Scopes, found: &mut Found, declarator: &Declarator) -
     value(scopes, found, &declarator.first)
 }
 
-/// The declarators of a declaration.
+/// Judges declarators, and puts their names in scope.
 fn declarators(
     scopes: &mut Scopes,
     found: &mut Found,
@@ -128,7 +128,7 @@ fn declarators(
     Ok(())
 }
 
-/// A declaration: its declarators are of its type.
+/// Judges a declaration, whose names it puts in scope as variables of its type.
 pub(crate) fn declaration(
     scopes: &mut Scopes,
     found: &mut Found,
@@ -143,7 +143,7 @@ pub(crate) fn declaration(
     declarators(scopes, found, list)
 }
 
-/// What stands before the first semicolon in the head of a `for`.
+/// Judges what stands before the first semicolon in the head of a `for`.
 pub(crate) fn start(scopes: &mut Scopes, found: &mut Found, start: &Start) -> Result<(), Memory>
     requires { HasRoom scopes.old (start_weight (start_tree start.now)) }
     ensures scopes { OnOk result (scopes.new ≡ after_start scopes.old (start_tree start.now)) }

@@ -64,7 +64,7 @@ fn param(scopes: &mut Scopes, found: &mut Found, param: Param) -> Result<(), Mem
     scopes.declare(name.id, entity)
 }
 
-/// The parameters of a function.
+/// Judges the parameters of a function, and puts them in scope.
 fn params(scopes: &mut Scopes, found: &mut Found, list: &[Param]) -> Result<(), Memory>
     requires { HasRoom scopes.old (length list.now) }
     ensures scopes { OnOk result (scopes.new ≡ after_params scopes.old list.now) }
@@ -123,7 +123,7 @@ fn function(
     scopes.declare_function(name.id, names.len() as u32, function.ty.is_unsigned())
 }
 
-/// A constant or a function.
+/// Judges a constant or a function, and puts its name in scope.
 fn item(alloc: Global, scopes: &mut Scopes, found: &mut Found, item: &Item) -> Result<(), Memory>
     requires room { HasRoom scopes.old (item_weight (item_tree item.now)) }
     requires outside { scopes.old.owner ≡ owners.OfFunction }
@@ -137,7 +137,7 @@ fn item(alloc: Global, scopes: &mut Scopes, found: &mut Found, item: &Item) -> R
     }
 }
 
-/// The items of a program.
+/// Judges the items of a program, each with those before it in scope.
 pub(crate) fn items(
     alloc: Global,
     scopes: &mut Scopes,

@@ -36,7 +36,7 @@ fn pragma_rule(owner: Owner) -> Option<Rule>
     }
 }
 
-/// `return` stands in a task.
+/// The rule that a `return` violates where it stands in a task.
 fn return_rule(owner: Owner) -> Option<Rule>
     ensures { result ≡ least_rule (when (is_task_body owner) ReturnInTask) }
 {
@@ -46,7 +46,7 @@ fn return_rule(owner: Owner) -> Option<Rule>
     }
 }
 
-/// A statement or a declaration.
+/// Judges a statement, or a declaration, whose names it puts in scope.
 #[cycle(stmts)]
 fn stmt(alloc: Global, scopes: &mut Scopes, found: &mut Found, stmt: &Stmt) -> Result<(), Memory>
     requires { HasRoom scopes.old (stmt_weight (stmt_tree stmt.now)) }
@@ -82,7 +82,7 @@ fn stmt(alloc: Global, scopes: &mut Scopes, found: &mut Found, stmt: &Stmt) -> R
     }
 }
 
-/// The statements and declarations of a block.
+/// Judges the statements and declarations of a block, in the scope that is open.
 #[cycle(stmts)]
 pub(crate) fn stmts(
     alloc: Global,
@@ -118,7 +118,7 @@ fn block(
     Ok(())
 }
 
-/// What stands behind `else`, where there is one.
+/// Judges what stands behind `else`, where there is one.
 #[cycle(stmts)]
 fn otherwise(
     alloc: Global,
@@ -136,7 +136,7 @@ fn otherwise(
     }
 }
 
-/// What a `while` repeats.
+/// Judges what a `while` repeats, inside a loop.
 #[cycle(stmts)]
 fn repeated(
     alloc: Global,
@@ -268,7 +268,7 @@ fn listed(
     Ok(found.into_listed(alloc))
 }
 
-/// The body of a task, which captures these scalars.
+/// Judges the body of a task, which captures these scalars.
 #[cycle(stmts)]
 fn body(
     alloc: Global,

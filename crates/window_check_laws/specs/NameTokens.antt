@@ -7,7 +7,7 @@ use Rattle.os_ast.specs.declared.expr.Mark.{Mark}
 use Rattle.os_lexer.specs.declared.token.Kind.{Kind}
 use Rattle.os_lexer.specs.declared.token.Kind.TheVariants as kind
 
--- its place, where the token is a name
+-- the place of a token, where it is a name
 abbrev pub name_place : Kind → Mark → List ℕ
 name_place (kind.Name id) m = m.place ∷ []
 name_place _ m = []

@@ -48,8 +48,8 @@ abbrev mutual
   stmts_weight tree.no_stmts = 0
   stmts_weight (tree.stmt a rest) = stmt_weight a + stmts_weight rest
 
--- one for a constant; six for a function, its two scopes and what stands round the body of `main`, and one for each
--- parameter
+-- how much an item declares: 1 for a constant; for a function 6, its two scopes and what stands round the body of `main`, and 1 for each
+-- parameter, and what its body declares
 abbrev pub item_weight : tree.ItemTree → ℕ
 item_weight (tree.Constant c) = 1
 item_weight (tree.Function f) = 6 + length (param_list f.params) + stmts_weight f.body

@@ -110,8 +110,8 @@ started (Listing listed) o m items slots = Listing listed
 started (Judging j) o m items slots = Judging (started_in j o m items slots)
 started (Collecting vs) o m items slots = Collecting (pushed vs (violations_at m (all_task_rules o items (length slots))))
 
--- Which scalars a walk has to know of a task that captures these: a task that stands elsewhere than in `main` is judged without them,
--- but for the collecting of all violations.
+-- The scalars that a walk over a task's body is told to be captured: none for a task that stands elsewhere than in `main`,
+-- unless all violations are collected.
 abbrev pub captured_for : Found → Owner → List ℕ → List ℕ
 captured_for (Listing listed) o slots = captured_in o slots
 captured_for (Judging j) o slots = captured_in o slots

@@ -64,7 +64,7 @@ impl Captured {
         }
     }
 
-    /// Their slots in ascending order.
+    /// The slots of the captured scalars, ascending.
     pub fn in_order(&self, alloc: Global) -> Result<List<u32>, Memory>
         ensures same { IfOk result (λ ordered. ordered ≡ self.now) }
         ensures ascending { IfOk result (λ ordered. IsStrictlySortedBy nat_cmp ordered) }

@@ -30,7 +30,7 @@ fn shape_of(index: &Option<Index>) -> Shape
     }
 }
 
-/// What stands behind the arrow of an item.
+/// Judges what stands behind the arrow of an item.
 fn joined(scopes: &Scopes, found: &mut Found, join: &Join) -> Result<(), Memory>
     ensures { OnOk result (found.new ≡ noted found.old (Used scopes.now join.now.name (usage.Joined (shape_of (option_map index_tree join.now.burst)))
         ∷ index_notes scopes.now (option_map index_tree join.now.burst))) }
@@ -39,7 +39,7 @@ fn joined(scopes: &Scopes, found: &mut Found, join: &Join) -> Result<(), Memory>
     indexed(scopes, found, &join.burst)
 }
 
-/// What stands behind the stream of an item.
+/// Judges the name that an item has in the task's body, and what stands behind its arrow.
 fn window(
     scopes: &Scopes,
     found: &mut Found,
@@ -75,7 +75,7 @@ fn item(
     listed.add_item(scopes, direction, item)
 }
 
-/// The items of a clause.
+/// Judges the items of a clause, and lists them.
 fn items(
     scopes: &Scopes,
     found: &mut Found,
@@ -108,7 +108,7 @@ fn private(
     listed.add_private(scopes, name)
 }
 
-/// The names of a `firstprivate` clause.
+/// Judges the names of a `firstprivate` clause, and lists them.
 #[tactic(auto, using(crate::proofs::Lists::lists))]
 fn privates(
     scopes: &Scopes,

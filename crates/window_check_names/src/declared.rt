@@ -62,7 +62,7 @@ impl Declared {
         self.newest.get(&id).copied()
     }
 
-    /// One more declaration, which is the innermost. `Memory` leaves them as they were.
+    /// Adds a declaration, which is the innermost now. After `Memory` the list is what it was.
     pub(crate) fn declare(&mut self, entry: Entry) -> Result<(), Memory>
         ensures ok { OnOk result (self.new ≡ entry ∷ self.old) }
         ensures err { OnErr result (self.new ≡ self.old) }

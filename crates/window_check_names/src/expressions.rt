@@ -61,7 +61,7 @@ pub fn called(scopes: &Scopes, found: &mut Found, call: &Call) -> Result<(), Mem
     args(scopes, found, &call.args)
 }
 
-/// The arguments of a call.
+/// Judges the names in the arguments of a call.
 #[cycle(exprs)]
 #[tactic(auto, using(crate::proofs::Rules::exprs))]
 fn args(scopes: &Scopes, found: &mut Found, args: &List<Expr>) -> Result<(), Memory>
@@ -73,7 +73,7 @@ fn args(scopes: &Scopes, found: &mut Found, args: &List<Expr>) -> Result<(), Mem
     Ok(())
 }
 
-/// The links of a chain.
+/// Judges the names in the operands behind a chain's first one.
 #[cycle(exprs)]
 #[tactic(auto, using(crate::proofs::Rules::exprs))]
 fn linked(scopes: &Scopes, found: &mut Found, links: &List<Link>) -> Result<(), Memory>
@@ -95,7 +95,7 @@ pub fn value(scopes: &Scopes, found: &mut Found, value: &Option<Expr>) -> Result
     }
 }
 
-/// An index that may be left out.
+/// Judges the names of an index that may be left out.
 pub(crate) fn indexed(
     scopes: &Scopes,
     found: &mut Found,

@@ -18,9 +18,9 @@ use std::alloc::Global;
 pub enum Found {
     /// The scalars of the control program that the part names.
     Listing(Captured),
-    /// What the rules and the names say of it.
+    /// The least violation of the part, what its names mean, and what its tasks capture.
     Judging(Judged),
-    /// All its violations.
+    /// All violations of the part.
     Collecting(List<Violation>),
 }
 
@@ -115,7 +115,7 @@ impl Judged {
         (least, names, captured)
     }
 
-    /// A token violates a rule, where there is one.
+    /// Notes the rule that a token violates, where there is one.
     pub fn add_violation(&mut self, mark: Mark, rule: Option<Rule>)
         ensures { self.new ≡ judged_with_violation self.old mark rule }
     {
@@ -124,7 +124,7 @@ impl Judged {
         }
     }
 
-    /// A name means this, which is of the type `unsigned` or isn't.
+    /// Notes what a name means, and whether that is of the type `unsigned`.
     pub(crate) fn name(&mut self, mark: Mark, what: What, unsigned: bool) -> Result<(), Memory>
         ensures { OnOk result (self.new ≡ named self.old mark what unsigned) }
     {
@@ -135,7 +135,7 @@ impl Judged {
         })
     }
 
-    /// A task starts in `main`, which captures these scalars, or elsewhere, where none may stand.
+    /// Notes a task that starts in `main` and captures these scalars, or one that starts elsewhere, where none may stand.
     fn task(
         &mut self,
         alloc: Global,
@@ -161,7 +161,7 @@ impl Judged {
 }
 
 impl Found {
-    /// A token violates a rule, where there is one.
+    /// Notes the rule that a token violates, where there is one.
     pub fn add_violation(&mut self, mark: Mark, rule: Option<Rule>) -> Result<(), Memory>
         ensures { OnOk result (self.new ≡ with_violation self.old mark rule) }
     {
@@ -175,7 +175,7 @@ impl Found {
         }
     }
 
-    /// A token violates some rules.
+    /// Notes the rules that a token violates.
     fn add_violations(&mut self, mark: Mark, rules: BrokenRules) -> Result<(), Memory>
         ensures { OnOk result (self.new ≡ with_violations self.old mark (all_rules rules)) }
     {
@@ -212,7 +212,7 @@ impl Found {
         self.name(mark, what, unsigned)
     }
 
-    /// A name stands as a size, and is that of a constant where there is a value.
+    /// Notes that a name stands as a size: it is that of a constant where there is a value.
     pub(crate) fn constant(
         &mut self,
         mark: Mark,

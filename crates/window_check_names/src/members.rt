@@ -69,7 +69,7 @@ impl Listed {
         when(self.names.contains(&name.id), Rule::ListedTwice)
     }
 
-    /// One more item, by the name that it has in the task's body.
+    /// Adds an item, by the name that it has in the task's body.
     pub(crate) fn add_item(
         &mut self,
         scopes: &Scopes,
@@ -93,7 +93,7 @@ impl Listed {
         })
     }
 
-    /// One more `firstprivate` name.
+    /// Adds a `firstprivate` name.
     pub(crate) fn add_private(&mut self, scopes: &Scopes, name: Name) -> Result<(), Memory>
         ensures { OnOk result (self.new ≡ after_member scopes.now self.old (Private name)) }
     {

@@ -175,7 +175,7 @@ fn use_rules(id: u32, usage: Use, entity: Entity) -> BrokenRules
     }
 }
 
-/// A name is used.
+/// Notes that a name is used: its scalar, its meaning and a violation, or all its violations, as the walk asks.
 #[tactic(auto, using(crate::proofs::UsedNames::uses))]
 pub(crate) fn used(scopes: &Scopes, found: &mut Found, name: Name, usage: Use) -> Result<(), Memory>
     ensures { OnOk result (found.new ≡ note found.old (Used scopes.now name usage)) }
@@ -187,7 +187,7 @@ pub(crate) fn used(scopes: &Scopes, found: &mut Found, name: Name, usage: Use) -
     }
 }
 
-/// The rules and the meaning of a used name.
+/// Notes what a used name means, and the least rule that it violates.
 #[tactic(auto, using(crate::proofs::UsedNames::uses))]
 fn judge(scopes: &Scopes, all: &mut Judged, name: Name, usage: Use) -> Result<(), Memory>
     ensures { OnOk result (all.new ≡ judged all.old (Used scopes.now name usage)) }
@@ -204,7 +204,7 @@ fn judge(scopes: &Scopes, all: &mut Judged, name: Name, usage: Use) -> Result<()
     }
 }
 
-/// The rules that a used name violates.
+/// Adds all rules that a used name violates.
 #[tactic(auto, using(crate::proofs::UsedNames::uses))]
 fn collect(scopes: &Scopes, all: &mut List<Violation>, name: Name, usage: Use) -> Result<(), Memory>
     ensures { OnOk result (all.new ≡ collected all.old (Used scopes.now name usage)) }

@@ -12,7 +12,7 @@ pub(super) struct Taking {
     pub(super) failing: Option<u64>,
 }
 
-/// Takes whatever comes.
+/// Takes all bytes of each call, with ample room.
 pub(super) const ALL: Taking = Taking {
     room: 4_194_304,
     most: 4_194_304,

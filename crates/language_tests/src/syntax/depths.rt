@@ -9,7 +9,7 @@ use std::test::Fail;
 use std::thread;
 use std::thread::Threads;
 
-/// The body of a function.
+/// The text of a function's body that nests a part: the head, the repeated opening, the middle, the repeated closing, the tail.
 #[derive(Clone, Copy)]
 struct Nest<'a> {
     head: &'a str,
@@ -64,7 +64,7 @@ const NESTS: &str = "197 0 return |(|1|)|;
 198 0 |for (;;) |;||
 198 2 |¶#pragma omp task¶|;||";
 
-/// What stands before a nest.
+/// The text before the body of a nest.
 const FUNCTION: &str = "int main(void) {\n";
 
 fn put_often(text: &mut String, piece: &str, count: u32) -> Result<(), AllocError> {
@@ -150,7 +150,7 @@ fn is_read(rt: &impl Abort, alloc: Global, nest: &Nest<'_>, most: u32) -> Result
     Ok(())
 }
 
-/// It is read in a thread, whose stack has the size that threads have where none is asked for.
+/// The program of a nest is read in a thread, whose stack has the size that threads have where none is asked for.
 fn a_thread_reads<R: Threads + Abort>(
     rt: &R,
     alloc: Global,
@@ -236,7 +236,7 @@ fn many_open_parentheses_are_refused(rt: HostRuntime) -> Result<(), Fail> {
     Ok(())
 }
 
-/// What a chain grows by.
+/// A sum in a body, each of whose terms adds a link to its chain.
 const CHAIN: Nest<'static> = Nest {
     head: "return ",
     open: "",

@@ -9,7 +9,7 @@ use std::alloc::Global;
 use std::process::Abort;
 use std::test::Fail;
 
-/// What no program is.
+/// Texts outside functions that begin no program. Each stands behind the number of the token that is refused.
 const ITEMS: &str = "// an item
 0 1
 0 ;
@@ -378,7 +378,7 @@ const BODIES: &str = "// a block
 3 ¶#pragma omp taskwait taskwait¶
 3 ¶#pragma omp taskwait()¶";
 
-/// What is no expression.
+/// Texts behind a `return` that are no expression. Each stands behind the number of the token that is refused.
 const VALUES: &str = "// a choice
 2 a ?
 3 a ? b

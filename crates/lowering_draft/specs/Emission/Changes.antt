@@ -19,7 +19,7 @@ aim_code tells old (tree.Variable n) draft =
     with_instrs (with_instrs draft (aiming (tells n.mark.place).what)) (fetching old (tells n.mark.place).what n.mark.line)
 aim_code tells old (tree.Element n m e) draft = with_instrs (expr_code tells e draft) (fetching_at old (tells n.mark.place).what m.line)
 
--- what stores it
+-- the instruction that stores the value on the stack in a target
 abbrev pub store_code : (ℕ → Resolved) → tree.TargetTree → Emission
 store_code tells (tree.Variable n) draft = with_instr draft (storing (tells n.mark.place).what n.mark.line)
 store_code tells (tree.Element n m e) draft = with_instr draft (storing_at (tells n.mark.place).what m.line)

@@ -103,7 +103,7 @@ abbrev mutual
   block_code tells tree.no_stmts x next draft = jump_on next draft
   block_code tells (tree.stmt a rest) x next draft = rest_code tells rest x next (stmt_code tells a) draft
 
-  -- statements behind one
+  -- the code of a statement and of those that stand behind it in a block
   pub rest_code : (ℕ → Resolved) → tree.Stmts → Exits → Option Label → StmtPart → Emission
   rest_code tells tree.no_stmts x next a draft = a x next draft
   rest_code tells (tree.stmt b rest) x next a draft = rest_code tells rest x next (stmt_code tells b) (a x None draft)

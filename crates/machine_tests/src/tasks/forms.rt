@@ -1708,8 +1708,8 @@ pub(crate) const FORMS: [Case<'static>; 49] = [
     ),
 ];
 
-/// The same of forms of windows and of operators, of which some are named by their operator and some aren't. (Both in one table are more
-/// than the prover can take.)
+/// Further rows as those of `FORMS`, for forms of windows and of operators, of which some are named by their operator and some aren't. (Both in
+/// one table are more than the prover can take.)
 pub(crate) const FORMS_OF_WINDOWS_AND_OPERATORS: [Case<'static>; 13] = [
     (
         &[

@@ -85,7 +85,7 @@ fn count_of(
     (control.activations.len(), control.end)
 }
 
-/// A row holds.
+/// A program makes as many activations, and ends, as its row says.
 fn counts_so(rt: &impl Abort, alloc: Global, row: &Counted) {
     let (text, input_len, budget, count, end) = *row;
     let found = count_of(rt, alloc, text, input_len, budget);

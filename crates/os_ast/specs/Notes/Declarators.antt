@@ -24,7 +24,7 @@ size_value s (tree.Wide n) = Some (pos n)
 size_value s (tree.Place (tree.Variable n)) = constant_of (entity_of (lookup s.entries n.id))
 size_value s _ = None
 
--- that of a declarator's size
+-- the value of a declarator's size, where it has one that is known
 abbrev pub size_told : Scope → Option tree.IndexTree → Option ℤ
 size_told s i = option_and_then (λ (i : tree.IndexTree). size_value s i.value) i
 

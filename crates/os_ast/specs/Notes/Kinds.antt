@@ -8,7 +8,7 @@ use Rattle.os_ast.specs.declared.expr.Name.{Name}
 use Rattle.os_ast.specs.declared.names.Use.{Use}
 use Rattle.os_ast.specs.declared.program.Param.{Param}
 
--- each with the scope in which it stands
+-- what stands at a token, with the scope there
 pub data Note : Type 0 where
   -- a name that is used
   Used : Scope → Name → Use → Note
@@ -31,7 +31,7 @@ pub data Note : Type 0 where
   -- the name of a member of a task's clauses, behind members of these names
   Listed : List ℕ → Name → Note
 
--- its token
+-- the token at which a note is made
 abbrev pub mark_of : Note → Mark
 mark_of (Used s n u) = n.mark
 mark_of (Sized s n) = n.mark
