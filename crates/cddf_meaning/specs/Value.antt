@@ -61,12 +61,10 @@ abbrev mutual
   value file (tree.Place t) s turns = place_value file t s turns
   value file (tree.ExprTree.Call f args) s turns = and_then (values file args s turns) (call_value file.calls (variable file s f.id))
   value file (tree.Paren e) s turns = value file e s turns
-  value file (tree.Unary op m e) s turns =
-      and_then (value file e s turns) (λ n. with_turns n.turns (unary_answer op m.line (type_in file s e) n.value))
+  value file (tree.Unary op m e) s turns = and_then (value file e s turns) (λ n. with_turns n.turns (unary_answer op m.line (type_in file s e) n.value))
   value file (tree.Chain l first links) s turns = and_then (value file first s turns) (chained file links s (type_in file s first))
   -- `condition ? first : second` evaluates one of the two. C11, 6.5.15.
-  value file (tree.Choice c a b) s turns = and_then (value file c s turns)
-      (λ n. if is_zero n.value then value file b s n.turns else value file a s n.turns)
+  value file (tree.Choice c a b) s turns = and_then (value file c s turns) (λ n. if is_zero n.value then value file b s n.turns else value file a s n.turns)
 
   -- a name, without an index or with one
   pub place_value : File → tree.TargetTree → BodyState → ℕ → Answer (Left ℤ)

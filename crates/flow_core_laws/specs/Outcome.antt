@@ -47,10 +47,9 @@ IsTrapCode code = (1 ≤ code) × (code ≤ last_trap_code)
 
 -- whether an activation with this end failed itself: it trapped, or used up its turns
 abbrev pub has_failed : TaskEnd → Bool
-has_failed Done = false
 has_failed (Trapped _ _) = true
 has_failed OverBudget = true
-has_failed (Poisoned _) = false
+has_failed _ = false
 
 -- whether an end is Done
 abbrev pub is_done : TaskEnd → Bool

@@ -30,8 +30,7 @@ produced_source activations stream position =
 
 -- The source of the element at a place.
 abbrev pub stream_source : List Activation → List ℕ → Place → Source
-stream_source activations input place =
-    if place.stream == 0 then input_source input place.position else produced_source activations place.stream place.position
+stream_source activations input place = if place.stream == 0 then input_source input place.position else produced_source activations place.stream place.position
 
 -- The sources of an activation's inputs, place by place.
 abbrev pub stream_reads : List Activation → List ℕ → ℕ → List Source
