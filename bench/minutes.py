@@ -5,19 +5,23 @@ Call it in a fresh clone on a machine that has kept nothing, where the time from
 passed is not proved again. It prints a table of the minutes that proofs, tests and must-fail edits took, by crate in the
 order of crates.txt, and their sum beside that of the whole run (which builds and runs programs too). By these minutes it
 works out how long a run takes on two processors and on four, where each does one check after another, and of those that
-can be begun the one with the longest chain behind it. With --write it puts the table into docs/WORKING.md, where a crate
-that was kept, and so took no time, stays as it stands. It looks at the processes once a second, so up to a second of each
+can be begun the one with the longest chain behind it. With --write it puts the table into docs/WORKING.md with the paragraph
+over it; a crate that was kept, and so took no time, has the minutes that stood there, and is named. It looks at the processes once a second, so up to a second of each
 is missed. Its status is that of `rt ci`."""
 import heapq
 import os
 import resource
 import subprocess
 import sys
+import textwrap
 import time
 
 TOP = os.path.dirname(os.path.dirname(os.path.abspath(__file__)))
 TICKS = os.sysconf("SC_CLK_TCK")
 KINDS = ["proof", "tests", "edits"]
+PAGE = f"{TOP}/docs/WORKING.md"
+HEAD = "| crate | proof | tests | edits |"
+BEGINNING = "Processor minutes of `rt ci` from nothing, measured on"
 
 
 def uses():
@@ -59,7 +63,7 @@ def checks_below(root):
 
 def table(minutes):
     """The rows of the table, and the sums of its columns."""
-    rows, sums = ["| crate | proof | tests | edits |", "|---|---|---|---|"], [0.0, 0.0, 0.0]
+    rows, sums = [HEAD, "|---|---|---|---|"], [0.0, 0.0, 0.0]
     for crate in uses():
         row = [minutes.get((crate, kind), 0) for kind in KINDS]
         sums = [one + other for one, other in zip(sums, row)]
@@ -92,17 +96,44 @@ def spread(minutes, processors):
     return now
 
 
-def write(rows):
-    """Puts the rows in the place of the table in docs/WORKING.md."""
-    path = f"{TOP}/docs/WORKING.md"
-    with open(path) as page:
+def page_lines():
+    """The lines of the page that has the table, where the table begins in it, and where it ends."""
+    with open(PAGE) as page:
         lines = page.read().split("\n")
-    first = lines.index(rows[0])
-    behind = next(at for at in range(first, len(lines)) if not lines[at].startswith("|"))
-    before = {line.split("|")[1]: line for line in lines[first:behind]}
-    rows = [before.get(row.split("|")[1], row) if row.endswith("| - | - | - |") else row for row in rows]
-    with open(path, "w") as page:
-        page.write("\n".join(lines[:first] + rows + lines[behind:]))
+    first = lines.index(HEAD)
+    return lines, first, next(at for at in range(first, len(lines)) if not lines[at].startswith("|"))
+
+
+def with_kept(minutes):
+    """The minutes with those that stand in the page for the crates that took none, and the names of these crates."""
+    lines, first, behind = page_lines()
+    stood = {}
+    for line in lines[first + 2 : behind]:
+        name, *figures = [it.strip(" `") for it in line.strip("|").split("|")]
+        stood[name] = {(name, kind): float(it) for kind, it in zip(KINDS, figures) if it != "-"}
+    kept = [name for name in uses() if name in stood and not any(minutes.get((name, kind)) for kind in KINDS)]
+    return {**minutes, **{key: it for name in kept for key, it in stood[name].items()}}, kept
+
+
+def write(minutes, others):
+    """Puts the table and the paragraph over it into the page; `others` are the processor minutes of all else that the run did."""
+    minutes, kept = with_kept(minutes)
+    rows, sums = table(minutes)
+    kit = subprocess.run(["rt", "version"], stdout=subprocess.PIPE, text=True).stdout.split()[0]
+    paragraph = (
+        f"{BEGINNING} {time.strftime('%Y-%m-%d')} by `bench/minutes.py --write`, with {kit} on {os.cpu_count()} processors: "
+        f"proofs {sums[0]:.0f}, tests {sums[1]:.0f}, edits {sums[2]:.0f}, {sum(sums):.0f} in all, and {others:.0f} more for all else that a run does. "
+        f"By these minutes a run from nothing takes {spread(minutes, 2):.0f} minutes on two processors and {spread(minutes, 4):.0f} on four, where each does "
+        "one check after another; the programs and the tests that run them take some minutes more. `-` stands where there is nothing to run."
+    )
+    if kept:
+        paragraph += f" Kept from an earlier run, and so measured earlier: {', '.join(f'`{it}`' for it in kept)}."
+    lines, first, behind = page_lines()
+    lines[first:behind] = rows
+    begin = next(at for at, line in enumerate(lines) if line.startswith(BEGINNING))
+    lines[begin : lines.index("", begin)] = textwrap.wrap(paragraph, 160, break_on_hyphens=False)
+    with open(PAGE, "w") as page:
+        page.write("\n".join(lines))
 
 
 def main():
@@ -123,7 +154,7 @@ def main():
     print(f"{(time.time() - begun) / 60:.0f} minutes, status {run.returncode}")
     print(f"by these minutes {spread(minutes, 2):.0f} on two processors, {spread(minutes, 4):.0f} on four")
     if "--write" in sys.argv[1:]:
-        write(rows)
+        write(minutes, (used.ru_utime + used.ru_stime) / 60 - sum(sums))
     return run.returncode
 
 
