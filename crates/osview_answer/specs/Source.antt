@@ -19,7 +19,7 @@ use Rattle.osrun_core_jobs.specs.declared.refusal.Refusal.{Refusal}
 use Rattle.osrun_core_jobs.specs.declared.subject.Subject.TheVariants as subjects
 use Rattle.osrun_core_run.specs.Code.{IsCodeOf}
 use Rattle.osrun_core_run.specs.Refusal.{IsUnusable, IsUsable}
-use Rattle.osview_answer.specs.Answers.{IsMade}
+use Rattle.osview_answer.specs.Answers.{IsReportMade}
 use Rattle.osview_answer.specs.declared.source.Source.{Source}
 use Rattle.osview_answer.specs.declared.telling.RunAnswer.{RunAnswer}
 
@@ -43,4 +43,4 @@ ReadsSource view old new name result = MatchResult result
 -- both files were read and the run is told, or one of the files is the cause, or memory ran out
 abbrev pub Makes : {F : Type 0} → FilesView F → F → F → Job → Result RunAnswer Refusal → Type 0
 Makes view old new job result = MatchResult result
-    (λ told. IsMade view old new job told.text.items (status_code told.status)) (IsUnmadeOf view old new (files_of (Run job)))
+    (λ told. IsReportMade view old new job told.text.items (status_code told.status)) (IsUnmadeOf view old new (files_of (Run job)))
