@@ -11,12 +11,12 @@ ghost use Rattle.osview_answer.specs.Source.{IsSource};
 use crate::graph_job::GraphJob;
 use crate::lines::site_lines;
 use crate::names::{stream_names, tokens_of};
-use crate::source::{Source, read_source};
+use crate::source::{Source, read_run};
 use crate::telling::RunAnswer;
 use control_run::run_control;
 use epoch_run_bodies::laws::agreeing_bodies_mean_one;
 use os_io::{Files, Memory};
-use osrun_core_jobs::{Refusal, Subject, load};
+use osrun_core_jobs::Refusal;
 use osrun_core_run::run_code;
 use osview_graph::{Drawn, graph_text};
 use std::alloc::Global;
@@ -78,8 +78,7 @@ pub(crate) fn make_graph<R: Threads + Sync, F: Files, G: Gate>(
     requires within { IsWithin (job_of asked.now.job) }
     ensures { MakesGraph F.Files files.old files.new (job_of asked.now.job) asked.now.view result }
 {
-    let source = read_source(alloc, files, asked.job.program)?;
-    let input = load(alloc, files, asked.job.input, Subject::Input)?;
-    let told = tell_graph(rt, alloc, asked, &source, &input, gate)?;
+    let read = read_run(alloc, files, &asked.job)?;
+    let told = tell_graph(rt, alloc, asked, &read.source, &read.input, gate)?;
     Ok(told)
 }

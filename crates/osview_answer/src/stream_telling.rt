@@ -13,13 +13,13 @@ ghost use Rattle.osview_answer.specs.Streams.{IsTold, MakesStream, asked_of};
 use crate::lines::task_lines;
 use crate::names::{stream_names, tokens_of};
 use crate::outcomes::task_outcomes;
-use crate::source::{Source, read_source};
+use crate::source::{Source, read_run};
 use crate::stream_job::StreamJob;
 use crate::telling::RunAnswer;
 use control_run::run_control;
 use epoch_run_bodies::laws::agreeing_bodies_mean_one;
 use os_io::{Files, Memory};
-use osrun_core_jobs::{Refusal, Subject, load};
+use osrun_core_jobs::Refusal;
 use osrun_core_run::run_code;
 use osview_stream::{Shown, called_stream, elements_text};
 use osview_text::Text;
@@ -138,8 +138,7 @@ pub(crate) fn make_stream<R: Threads + Sync, F: Files, G: Gate>(
     requires within { IsWithin (job_of asked.now.job) }
     ensures { MakesStream F.Files files.old files.new (job_of asked.now.job) (asked_of asked.now) result }
 {
-    let source = read_source(alloc, files, asked.job.program)?;
-    let input = load(alloc, files, asked.job.input, Subject::Input)?;
-    let told = tell_stream(rt, alloc, asked, &source, &input, gate)?;
+    let read = read_run(alloc, files, &asked.job)?;
+    let told = tell_stream(rt, alloc, asked, &read.source, &read.input, gate)?;
     Ok(told)
 }
