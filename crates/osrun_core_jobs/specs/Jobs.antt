@@ -78,79 +78,48 @@ pub data Request : Type 0 where
 -- the job of a `run` request; none for others
 abbrev pub run_in : Request → Option Job
 run_in (Run job) = Some job
-run_in (Gen job) = None
-run_in (Compile job) = None
-run_in (Exec job) = None
-run_in (Explain job) = None
-run_in (Trace job) = None
-run_in (Replay job) = None
+run_in _ = None
 
 -- the job of a `gen` request; none for others
 abbrev pub gen_in : Request → Option GenJob
-gen_in (Run job) = None
 gen_in (Gen job) = Some job
-gen_in (Compile job) = None
-gen_in (Exec job) = None
-gen_in (Explain job) = None
-gen_in (Trace job) = None
-gen_in (Replay job) = None
+gen_in _ = None
 
 -- the job of a `compile` request; none for others
 abbrev pub compile_in : Request → Option CompileJob
-compile_in (Run job) = None
-compile_in (Gen job) = None
 compile_in (Compile job) = Some job
-compile_in (Exec job) = None
-compile_in (Explain job) = None
-compile_in (Trace job) = None
-compile_in (Replay job) = None
+compile_in _ = None
 
 -- the job of an `exec` request; none for others
 abbrev pub exec_in : Request → Option ExecJob
-exec_in (Run job) = None
-exec_in (Gen job) = None
-exec_in (Compile job) = None
 exec_in (Exec job) = Some job
-exec_in (Explain job) = None
-exec_in (Trace job) = None
-exec_in (Replay job) = None
+exec_in _ = None
 
 -- the job of an `explain` request; none for others
 abbrev pub explain_in : Request → Option ExplainJob
-explain_in (Run job) = None
-explain_in (Gen job) = None
-explain_in (Compile job) = None
-explain_in (Exec job) = None
 explain_in (Explain job) = Some job
-explain_in (Trace job) = None
-explain_in (Replay job) = None
+explain_in _ = None
 
 -- the job of a `trace` request; none for others
 abbrev pub trace_in : Request → Option Job
-trace_in (Run job) = None
-trace_in (Gen job) = None
-trace_in (Compile job) = None
-trace_in (Exec job) = None
-trace_in (Explain job) = None
 trace_in (Trace job) = Some job
-trace_in (Replay job) = None
+trace_in _ = None
 
 -- the job of a `replay` request; none for others
 abbrev pub replay_in : Request → Option ReplayJob
-replay_in (Run job) = None
-replay_in (Gen job) = None
-replay_in (Compile job) = None
-replay_in (Exec job) = None
-replay_in (Explain job) = None
-replay_in (Trace job) = None
 replay_in (Replay job) = Some job
+replay_in _ = None
+
+-- the terms of a run are within their bounds
+pub record AreTermsWithin (workers task_budget control_budget : ℕ) : Type 0 where
+  pub some_workers : 1 ≤ workers
+  pub few_workers : workers ≤ workers_limit
+  pub task_turns : task_budget ≤ budget_limit
+  pub control_turns : control_budget ≤ budget_limit
 
 -- the numbers of a job are within their bounds
-pub record IsWithin (job : Job) : Type 0 where
-  pub some_workers : 1 ≤ job.workers
-  pub few_workers : job.workers ≤ workers_limit
-  pub task_turns : job.task_budget ≤ budget_limit
-  pub control_turns : job.control_budget ≤ budget_limit
+abbrev pub IsWithin : Job → Type 0
+IsWithin job = AreTermsWithin job.workers job.task_budget job.control_budget
 
 pub record IsGenWithin (job : GenJob) : Type 0 where
   pub seed_fits : job.seed ≤ seed_limit
@@ -159,18 +128,12 @@ pub record IsGenWithin (job : GenJob) : Type 0 where
   pub some_workers : 1 ≤ job.workers
   pub few_workers : job.workers ≤ workers_limit
 
-pub record IsExecWithin (job : ExecJob) : Type 0 where
-  pub some_workers : 1 ≤ job.workers
-  pub few_workers : job.workers ≤ workers_limit
-  pub task_turns : job.task_budget ≤ budget_limit
-  pub control_turns : job.control_budget ≤ budget_limit
+abbrev pub IsExecWithin : ExecJob → Type 0
+IsExecWithin job = AreTermsWithin job.workers job.task_budget job.control_budget
 
 pub record IsExplainWithin (job : ExplainJob) : Type 0 where
   pub few_activations : job.activation ≤ last_activation
-  pub some_workers : 1 ≤ job.workers
-  pub few_workers : job.workers ≤ workers_limit
-  pub task_turns : job.task_budget ≤ budget_limit
-  pub control_turns : job.control_budget ≤ budget_limit
+  pub terms : AreTermsWithin job.workers job.task_budget job.control_budget
 
 pub record IsReplayWithin (job : ReplayJob) : Type 0 where
   pub task_turns : job.task_budget ≤ budget_limit

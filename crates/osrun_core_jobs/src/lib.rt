@@ -20,7 +20,7 @@ mod telling;
 
 pub use delivering::{Lines, NoLines, deliver};
 pub use job::{CompileJob, ExecJob, ExplainJob, GenJob, Job, ReplayJob, Request, Terms};
-pub use limits::{BLOCKS_LIMIT, SEED_LIMIT};
+pub use limits::{BLOCKS_LIMIT, DEFAULT_BUDGET, DEFAULT_WORKERS, SEED_LIMIT};
 pub use line::Line;
 pub use loading::load;
 pub use refusal::Refusal;

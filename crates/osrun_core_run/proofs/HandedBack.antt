@@ -1,16 +1,15 @@
 -- What is handed back of the right answer over a planned run is what the program comes to.
-use Rattle.std.proofs.Common.{◌≡◌, ◌≤◌, ℕ, All, List, length, sym, ap, ◌∙◌, subst}
-use Rattle.collector.specs.Written.{IsByteIfThere, written}
+use Rattle.std.proofs.Common.{◌≡◌, ℕ, All, List, length, refl, sym, subst}
+use Rattle.collector.specs.Written.{IsByteIfThere}
 use Rattle.epoch_run.specs.declared.result.Budgets.{Budgets}
 use Rattle.epoch_run_bodies.specs.Frames.{code_ends, frame_outcome}
 use Rattle.epoch_run_bodies.specs.Laws.{AgreeingBodiesMeanOne}
 use Rattle.flow_core_laws.specs.Laws.{MeansTheStreams, SinkIsTheOutput}
-use Rattle.flow_core_laws.specs.Streams.{stream_meaning}
 use Rattle.flow_core_laws.specs.declared.ends.Ends.{Ends}
 use Rattle.os_ast.specs.Trees.{ProgramTree}
 use Rattle.os_code.specs.IsValid.{IsValid}
 use Rattle.os_code.specs.declared.parts.Parts.{Parts}
-use Rattle.osrun_core_run.proofs.FewWritten.{few_written}
+use Rattle.osrun_core_run.proofs.CodeRuns.{run_of_ends}
 use Rattle.osrun_core_run.proofs.Replays.{replay_of_code}
 use Rattle.osrun_core_run.proofs.TasksRun.{code_bytes_are, ends_are, run_of_code}
 use Rattle.osrun_core_run.specs.BodyLaws.{CodesGiveBytes, OutputsAreBytes}
@@ -23,8 +22,6 @@ use Rattle.osrun_core_run.specs.declared.made.MadeRun.{MadeRun}
 use Rattle.osrun_core_run.specs.declared.planning.Planned.{Planned}
 use Rattle.osrun_core_run.specs.declared.replaying.Replay.{Replay}
 use Rattle.osrun_core_run.specs.declared.replaying.Replay.TheVariants.{Told, Whole}
-use Rattle.stream_match_layouts.specs.Layout.{IsLayout, IsLayoutOf}
-use Rattle.stream_match_layouts.specs.declared.layout.Layout.{Layout}
 use Rattle.trace_replay_laws.specs.Answers.{IsAnswer}
 use Rattle.trace_replay_laws.specs.Lists.{taken_from}
 use Rattle.trace_replay_laws.specs.declared.replayed.Replayed.{Replayed}
@@ -67,22 +64,8 @@ module _ (code : Parts) (budgets : Budgets) (input : List ℕ) (lists : List (Li
     whole_run : (answer : Replayed) → IsRight answer → (run : MadeRun) → IsMadeOf planned answer (Whole run)
         → IsRunOfCode budgets.task budgets.control code input run.output.items run.layout run.ends run.control
     whole_run answer h run made =
-        let activations = planned.control.activations in
-        let state = stream_meaning activations input (frame_outcome code activations budgets.task) in
-        let meant = whole_ends run.ends (subst IsRight made.0 h) in
-        let count = ap length made.1 ∙ ap (λ (e : Ends). length (written e.output)) meant in
-        record {
-          made = planned.control;
-          made_is = is.made_is;
-          end_is = made.3;
-          fit = is.fit;
-          whole = subst IsLayout (sym made.2) is.whole;
-          laid = subst (λ (layout : Layout). IsLayoutOf layout activations) (sym made.2) is.laid;
-          over = ap (λ (layout : Layout). layout.input_len) made.2 ∙ is.over;
-          ends_are = meant;
-          writes = made.1;
-          few = subst (λ n. n ≤ 4194304) (sym count) (few_written _ activations input state is.lawful);
-        }
+        run_of_ends budgets.task budgets.control code input planned.control is.made_is is.fit is.lawful run planned.layout run.ends
+        is.whole is.laid is.over (whole_ends run.ends (subst IsRight made.0 h)) made.1 made.2 refl made.3
 
     module _ (one : AgreeingBodiesMeanOne) (p : ProgramTree) (of : IsCodeOf code p) where
       handed_back : (answer : Replayed) → IsRight answer → (replay : Replay) → IsMadeOf planned answer replay

@@ -1,6 +1,7 @@
 pub mod Accepted
 pub mod BodyBytes
 pub mod Bytes
+pub mod CodeRuns
 pub mod FewWritten
 pub mod Filling
 pub mod HandedBack

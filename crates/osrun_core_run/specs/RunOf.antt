@@ -3,7 +3,7 @@ use Rattle.std.specs.Prelude.{◌≡◌, ◌≤◌, ℕ, All, List, length}
 use Rattle.cddf_meaning.specs.Control.{control}
 use Rattle.collector.specs.Written.{written}
 use Rattle.epoch_run_bodies.specs.Frames.{code_ends}
-use Rattle.flow_core_laws.specs.Limits.{budget_limit, positions_limit, workers_limit}
+use Rattle.flow_core_laws.specs.Limits.{positions_limit}
 use Rattle.flow_core_laws.specs.declared.control.Control.{Control}
 use Rattle.flow_core_laws.specs.declared.control.ControlEnd.{ControlEnd}
 use Rattle.flow_core_laws.specs.declared.ends.Ends.{Ends}
@@ -13,16 +13,14 @@ use Rattle.os_code.specs.Outcomes as machine
 use Rattle.os_code.specs.Tasks.{Fits}
 use Rattle.os_code.specs.declared.parts.Parts.{Parts}
 use Rattle.osrun_core_run.specs.Run.{ends_over}
+use Rattle.osrun_core_jobs.specs.Jobs.{AreTermsWithin}
 use Rattle.osrun_core_jobs.specs.declared.job.Terms.{Terms}
 use Rattle.stream_match_layouts.specs.Layout.{IsLayout, IsLayoutOf}
 use Rattle.stream_match_layouts.specs.declared.layout.Layout.{Layout}
 
 -- the terms are within their bounds
-pub record AreTerms (terms : Terms) : Type 0 where
-  pub some_workers : 1 ≤ terms.workers
-  pub few_workers : terms.workers ≤ workers_limit
-  pub task_turns : terms.task_budget ≤ budget_limit
-  pub control_turns : terms.control_budget ≤ budget_limit
+abbrev pub AreTerms : Terms → Type 0
+AreTerms terms = AreTermsWithin terms.workers terms.task_budget terms.control_budget
 
 -- the budgets among the terms of a run
 abbrev pub budgets_of : Terms → Budgets

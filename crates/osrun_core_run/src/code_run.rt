@@ -5,7 +5,6 @@ ghost use Rattle.osrun_core_run.specs.RunOf.{AreTerms, IsRunOfCode};
 
 use crate::in_epochs::run_in_epochs;
 use crate::made::MadeRun;
-use collector::output_bytes;
 use epoch_run::RunResult;
 use os_code::Code;
 use os_io::Memory;
@@ -34,13 +33,8 @@ pub fn run_code<R: Threads + Sync, G: Gate>(
         ends,
         control,
     } = run_in_epochs(rt, alloc, terms, code, input, gate)?;
-    let output = output_bytes(alloc, &ends)?;
-    Ok(MadeRun {
-        output,
-        layout,
-        ends,
-        control,
-    })
+    let run = MadeRun::of(alloc, layout, ends, control)?;
+    Ok(run)
 }
 
 /// Runs a code over an input as `run_code` does, and gives the input up once all activations have ended: the bytes of the output are
@@ -64,11 +58,6 @@ pub fn run_code_over<R: Threads + Sync, G: Gate>(
         control,
     } = run_in_epochs(rt, alloc, terms, code, &input, gate)?;
     drop(input);
-    let output = output_bytes(alloc, &ends)?;
-    Ok(MadeRun {
-        output,
-        layout,
-        ends,
-        control,
-    })
+    let run = MadeRun::of(alloc, layout, ends, control)?;
+    Ok(run)
 }

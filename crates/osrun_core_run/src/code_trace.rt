@@ -12,7 +12,6 @@ ghost use Rattle.task_workers.specs.Logged.{HoldTheEnded};
 use crate::body_laws::{codes_give_bytes, outputs_are_bytes};
 use crate::made::MadeRun;
 use crate::planning::plan_run;
-use collector::output_bytes;
 use epoch_run_bodies::TaskBodies;
 use epoch_run_bodies::laws::bodies_serve;
 use flow_core_laws::{Control, Plan, laws};
@@ -93,13 +92,7 @@ pub fn trace_code<R: Threads + Sync, G: Gate>(
         &planned.plan,
         gate,
     )?;
-    let output = output_bytes(alloc, &logged.ends)?;
-    let run = MadeRun {
-        output,
-        layout: planned.layout,
-        ends: logged.ends,
-        control: planned.control.end,
-    };
+    let run = MadeRun::of(alloc, planned.layout, logged.ends, planned.control.end)?;
     Ok(Traced {
         run,
         lists: logged.lists,

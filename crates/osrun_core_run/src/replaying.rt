@@ -1,5 +1,4 @@
-ghost use Rattle.std.specs.Prelude.{◌≡◌, ◌≤◌, ◌<◌, ◌^◌, ℕ, All, List, length, IfOk};
-ghost use Rattle.collector.specs.Written.{IsByteIfThere, written};
+ghost use Rattle.std.specs.Prelude.{◌≤◌, ◌<◌, ◌^◌, ℕ, All, List, length, IfOk};
 ghost use Rattle.flow_core_laws.specs.Limits.{budget_limit, input_limit, workers_limit};
 ghost use Rattle.flow_core_laws.specs.StandsFor.{StandsFor};
 ghost use Rattle.os_ast.specs.Views.{program_tree};
@@ -14,10 +13,9 @@ use crate::inputs::cell_place;
 use crate::made::MadeRun;
 use crate::planning::Planned;
 use crate::replay_lines::{repeat_line, short_line, stranger_line, stuck_line};
-use collector::output_bytes;
 use epoch_run::Budgets;
 use epoch_run_bodies::laws::agreeing_bodies_mean_one;
-use flow_core_laws::{Ends, laws};
+use flow_core_laws::laws;
 use os_io::{List, Memory};
 use std::alloc::Global;
 use trace_replay::Replayed;
@@ -32,23 +30,6 @@ pub enum Replay {
     Told(String),
 }
 
-/// A planned run with its ends.
-fn ended_run(alloc: Global, planned: Planned, ends: Ends) -> Result<MadeRun, Memory>
-    requires bytes { All IsByteIfThere ends.output }
-    ensures output { IfOk result (λ run. run.output.items ≡ written ends.output) }
-    ensures layout { IfOk result (λ run. run.layout ≡ planned.layout) }
-    ensures ends { IfOk result (λ run. run.ends ≡ ends) }
-    ensures control { IfOk result (λ run. run.control ≡ planned.control.end) }
-{
-    let output = output_bytes(alloc, &ends)?;
-    Ok(MadeRun {
-        output,
-        layout: planned.layout,
-        ends,
-        control: planned.control.end,
-    })
-}
-
 /// What is handed back of an answer over a planned run.
 fn hand_back(alloc: Global, planned: Planned, answer: Replayed) -> Result<Replay, Memory>
     requires layout { IsLayout planned.layout }
@@ -60,7 +41,7 @@ fn hand_back(alloc: Global, planned: Planned, answer: Replayed) -> Result<Replay
 {
     match answer {
         Replayed::Whole(ends) => {
-            let run = ended_run(alloc, planned, ends)?;
+            let run = MadeRun::of(alloc, planned.layout, ends, planned.control.end)?;
             Ok(Replay::Whole(run))
         }
         Replayed::Stranger { list, place } => {

@@ -18,12 +18,15 @@ pub record CommandForm : Type 0 where
   pub arguments : List Argument
   pub request : List Row → Request
 
+-- the default is `default_workers` in decimal
 abbrev pub workers : Argument
 workers = option (codes "workers") (codes "4") 1 workers_limit
 
+-- the default is `default_budget` in decimal
 abbrev pub task_budget : Argument
 task_budget = option (codes "budget") (codes "1000000") 0 budget_limit
 
+-- the default is `default_budget` in decimal
 abbrev pub control_budget : Argument
 control_budget = option (codes "control") (codes "1000000") 0 budget_limit
 

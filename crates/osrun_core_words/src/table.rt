@@ -22,7 +22,7 @@ pub const OBJECT: Argument<'static> = Argument::Name { id: "OBJECT" };
 /// The name of the trace's file.
 pub const TRACE_FILE: Argument<'static> = Argument::Name { id: "TRACE" };
 
-/// How many workers make a run.
+/// How many workers make a run. The default is `DEFAULT_WORKERS` in decimal, as the law `words_have_defaults` says.
 pub const WORKERS: Argument<'static> = Argument::Option {
     id: "workers",
     default: "4",
@@ -30,7 +30,7 @@ pub const WORKERS: Argument<'static> = Argument::Option {
     most: WORKERS_LIMIT as u64,
 };
 
-/// How many turns each task of a run may take.
+/// How many turns each task of a run may take. The default is `DEFAULT_BUDGET` in decimal.
 pub const TASK_BUDGET: Argument<'static> = Argument::Option {
     id: "budget",
     default: "1000000",
@@ -38,7 +38,7 @@ pub const TASK_BUDGET: Argument<'static> = Argument::Option {
     most: BUDGET_LIMIT,
 };
 
-/// How many turns the control program of a run may take.
+/// How many turns the control program of a run may take. The default is `DEFAULT_BUDGET` in decimal.
 pub const CONTROL_BUDGET: Argument<'static> = Argument::Option {
     id: "control",
     default: "1000000",

@@ -9,9 +9,9 @@ use Rattle.osview.specs.declared.request.Request.TheVariants as request
 -- the numbers of a job are within their bounds
 abbrev pub IsLawful : Request → Type 0
 IsLawful (request.Report job) = IsWithin (job_of job)
-IsLawful (request.Stream job) = IsWithin (job_of job.run)
+IsLawful (request.Stream asked) = IsWithin (job_of asked.job)
 IsLawful (request.Steps job) = IsWithin (job_of job)
-IsLawful (request.Graph job) = IsWithin (job_of job.run)
+IsLawful (request.Graph asked) = IsWithin (job_of asked.job)
 IsLawful request.Help = Unit {0}
 IsLawful request.Version = Unit {0}
 

@@ -1,12 +1,13 @@
 //! What words have behind the one that says what to do: names and numbers, and options between them.
 
-ghost use Rattle.std.specs.Prelude.{◌≡◌, ◌<◌, ◌≤◌, IfSome, length};
+ghost use Rattle.std.specs.Prelude.{◌≡◌, ◌<◌, ◌≤◌, IfSome, length, unwrap_or};
 ghost use Rattle.flow_core_laws.specs.Limits.{budget_limit, workers_limit};
+ghost use Rattle.osrun_core_jobs.specs.Limits.{default_budget, default_workers};
 ghost use Rattle.osrun_core_run.specs.RunOf.{AreTerms};
 ghost use Rattle.osview.specs.Words.{AreWithin};
 
 use flow_core_laws::{BUDGET_LIMIT, WORKERS_LIMIT};
-use osrun_core_jobs::Terms;
+use osrun_core_jobs::{DEFAULT_BUDGET, DEFAULT_WORKERS, Terms};
 
 /// How many names and numbers there are at most.
 const MOST: usize = 5;
@@ -103,12 +104,15 @@ impl Options {
     /// On which terms a program is run: what `osrun run` has where an option isn't given.
     pub(crate) fn terms(self) -> Terms
         requires { AreWithin self }
-        ensures { AreTerms result }
+        ensures within { AreTerms result }
+        ensures workers { result.workers ≡ unwrap_or self.workers default_workers }
+        ensures task_budget { result.task_budget ≡ unwrap_or self.task_budget default_budget }
+        ensures control_budget { result.control_budget ≡ unwrap_or self.control_budget default_budget }
     {
         Terms {
-            workers: self.workers.unwrap_or(4),
-            task_budget: self.task_budget.unwrap_or(1_000_000),
-            control_budget: self.control_budget.unwrap_or(1_000_000),
+            workers: self.workers.unwrap_or(DEFAULT_WORKERS),
+            task_budget: self.task_budget.unwrap_or(DEFAULT_BUDGET),
+            control_budget: self.control_budget.unwrap_or(DEFAULT_BUDGET),
         }
     }
 }

@@ -85,7 +85,7 @@ fn stream_of<'w>(words: &ParsedWords<'w>) -> Option<Request<'w>>
     let first = number_at(words, 3, 0)?;
     let count = number_at(words, 4, u64::MAX)?;
     Some(Request::Stream(StreamJob {
-        run: job_of(words),
+        job: job_of(words),
         name: words.name(2),
         first,
         count,
@@ -105,7 +105,7 @@ fn graph_of<'w>(words: &ParsedWords<'w>) -> Option<Request<'w>>
         None => GraphChoice::Streams,
     };
     Some(Request::Graph(GraphJob {
-        run: job_of(words),
+        job: job_of(words),
         view,
     }))
 }

@@ -16,7 +16,7 @@ use Rattle.osrun_core_run.specs.Refusal.{IsUsable}
 use Rattle.osview_answer.specs.Told.{IsReportOf}
 
 -- Both files were read, and this is the report of the run of the one over the other, and its status.
-pub record IsMade {F : Type 0} (of_files : FilesView F) (files_old files_new : F) (job : Job) (told : List ℕ) (own : ℕ) : Type 0 where
+pub record IsReportMade {F : Type 0} (of_files : FilesView F) (files_old files_new : F) (job : Job) (told : List ℕ) (own : ℕ) : Type 0 where
   pub text : List ℕ
   pub input : List ℕ
   pub read : WereRead IsUsable of_files files_old files_new (files_of (Run job)) (text ∷ input ∷ [])
@@ -32,7 +32,7 @@ pub record IsHandedOver {O E : Type 0} (Makes : (told : List ℕ) (own : ℕ) �
   pub handed : HandsOver of_out out_old out_new told of_report report_old report_new [] own answered
 
 -- A file is the cause that there is no run, or memory ran out; the report says so, and nothing was written on the output.
-pub record IsFileRefused {F O E : Type 0} (of_files : FilesView F) (files_old files_new : F) (out_old out_new : O)
+pub record IsRefusalTold {F O E : Type 0} (of_files : FilesView F) (files_old files_new : F) (out_old out_new : O)
     (of_report : SinkView E) (report_old report_new : E) (job : Job) (answered : Status) : Type 0 where
   pub refusal : Refusal
   pub cause : IsUnmadeOf of_files files_old files_new (files_of (Run job)) refusal
@@ -43,5 +43,5 @@ pub record IsFileRefused {F O E : Type 0} (of_files : FilesView F) (files_old fi
 -- the report of the run was handed over, or it is told why there is none
 abbrev pub AnswersReport : {F O E : Type 0} → FilesView F → F → F → SinkView O → O → O → SinkView E → E → E → Job → Status → Type 0
 AnswersReport of_files files_old files_new of_out out_old out_new of_report report_old report_new job answered =
-    IsHandedOver (IsMade of_files files_old files_new job) of_out out_old out_new of_report report_old report_new answered
-    ⊎ IsFileRefused of_files files_old files_new out_old out_new of_report report_old report_new job answered
+    IsHandedOver (IsReportMade of_files files_old files_new job) of_out out_old out_new of_report report_old report_new answered
+    ⊎ IsRefusalTold of_files files_old files_new out_old out_new of_report report_old report_new job answered

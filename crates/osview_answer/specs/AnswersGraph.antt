@@ -7,7 +7,7 @@ use Rattle.osrun_core_jobs.specs.Jobs.{Job, Run}
 use Rattle.osrun_core_jobs.specs.Reading.{WereRead}
 use Rattle.osrun_core_jobs.specs.declared.status.Status.{Status}
 use Rattle.osrun_core_run.specs.Refusal.{IsUsable}
-use Rattle.osview_answer.specs.Answers.{IsFileRefused, IsHandedOver}
+use Rattle.osview_answer.specs.Answers.{IsRefusalTold, IsHandedOver}
 use Rattle.osview_answer.specs.Drawn.{IsGraphOf}
 use Rattle.osview_graph.specs.declared.drawn.GraphChoice.{GraphChoice}
 
@@ -22,4 +22,4 @@ pub record IsGraphMade {F : Type 0} (of_files : FilesView F) (files_old files_ne
 abbrev pub AnswersGraph : {F O E : Type 0} → FilesView F → F → F → SinkView O → O → O → SinkView E → E → E → Job → GraphChoice → Status → Type 0
 AnswersGraph of_files files_old files_new of_out out_old out_new of_report report_old report_new job view answered =
     IsHandedOver (IsGraphMade of_files files_old files_new job view) of_out out_old out_new of_report report_old report_new answered
-    ⊎ IsFileRefused of_files files_old files_new out_old out_new of_report report_old report_new job answered
+    ⊎ IsRefusalTold of_files files_old files_new out_old out_new of_report report_old report_new job answered

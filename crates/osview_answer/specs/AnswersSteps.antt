@@ -10,7 +10,7 @@ use Rattle.osrun_core_jobs.specs.Status.{status_code}
 use Rattle.osrun_core_jobs.specs.declared.refusal.Refusal.{Refusal}
 use Rattle.osrun_core_jobs.specs.declared.status.Status.{Status}
 use Rattle.osrun_core_run.specs.Refusal.{IsUsable}
-use Rattle.osview_answer.specs.Answers.{IsFileRefused, IsHandedOver}
+use Rattle.osview_answer.specs.Answers.{IsRefusalTold, IsHandedOver}
 use Rattle.osview_answer.specs.Steps.{AreStepsOf}
 use Rattle.osview_answer.specs.declared.telling.RunAnswer.{RunAnswer}
 
@@ -30,4 +30,4 @@ MakesSteps view old new job result = MatchResult result
 abbrev pub AnswersSteps : {F O E : Type 0} → FilesView F → F → F → SinkView O → O → O → SinkView E → E → E → Job → Status → Type 0
 AnswersSteps of_files files_old files_new of_out out_old out_new of_report report_old report_new job answered =
     IsHandedOver (AreMeasured of_files files_old files_new job) of_out out_old out_new of_report report_old report_new answered
-    ⊎ IsFileRefused of_files files_old files_new out_old out_new of_report report_old report_new job answered
+    ⊎ IsRefusalTold of_files files_old files_new out_old out_new of_report report_old report_new job answered

@@ -10,7 +10,7 @@ use Rattle.osrun_core_jobs.specs.Telling.{Tells}
 use Rattle.osrun_core_jobs.specs.declared.status.Status.{Status}
 use Rattle.osrun_core_jobs.specs.declared.status.Status.TheVariants.{BadWords}
 use Rattle.osrun_core_run.specs.Refusal.{IsUsable}
-use Rattle.osview_answer.specs.Answers.{IsFileRefused, IsHandedOver}
+use Rattle.osview_answer.specs.Answers.{IsRefusalTold, IsHandedOver}
 use Rattle.osview_answer.specs.Elements.{AreElementsOf, NamesNone}
 
 -- what is asked: the stream with this name, from a position on, and how many positions at most
@@ -50,4 +50,4 @@ abbrev pub AnswersStream : {F O E : Type 0} → FilesView F → F → F → Sink
 AnswersStream of_files files_old files_new of_out out_old out_new of_report report_old report_new job asked answered =
     IsHandedOver (AreMade of_files files_old files_new job asked) of_out out_old out_new of_report report_old report_new answered
     ⊎ (IsToldSo of_files files_old files_new out_old out_new of_report report_old report_new job asked answered
-    ⊎ IsFileRefused of_files files_old files_new out_old out_new of_report report_old report_new job answered)
+    ⊎ IsRefusalTold of_files files_old files_new out_old out_new of_report report_old report_new job answered)

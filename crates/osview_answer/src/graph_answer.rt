@@ -15,18 +15,18 @@ use task_workers::Gate;
 pub fn answer_graph<R: Threads + Sync, F: Files, O: Sink, E: Sink, G: Gate>(
     rt: &R,
     alloc: Global,
-    job: &GraphJob<'_>,
+    asked: &GraphJob<'_>,
     files: &mut F,
     out: &mut O,
     report: &mut E,
     gate: &G,
 ) -> Status
-    requires within { IsWithin (job_of job.now.run) }
-    requires may { MayOpen (F.may files.old) (F.opens files.old) (files_of (RunRequest (job_of job.now.run))) }
+    requires within { IsWithin (job_of asked.now.job) }
+    requires may { MayOpen (F.may files.old) (F.opens files.old) (files_of (RunRequest (job_of asked.now.job))) }
     ensures { AnswersGraph F.Files files.old files.new O.Sink out.old out.new E.Sink report.old report.new
-        (job_of job.now.run) job.now.view result }
+        (job_of asked.now.job) asked.now.view result }
 {
-    match make_graph(rt, alloc, job, files, gate) {
+    match make_graph(rt, alloc, asked, files, gate) {
         Ok(told) => deliver(out, report, &told.text, &NoLines, told.status),
         Err(refusal) => refuse(report, refusal),
     }

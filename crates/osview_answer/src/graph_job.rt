@@ -4,7 +4,7 @@ use osview_graph::GraphChoice;
 /// A run whose graph is to be shown.
 #[derive(Clone, Copy, Debug)]
 pub struct GraphJob<'w> {
-    pub run: Job<'w>,
+    pub job: Job<'w>,
     /// Which graph of the run.
     pub view: GraphChoice,
 }

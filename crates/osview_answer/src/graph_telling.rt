@@ -11,12 +11,12 @@ ghost use Rattle.osview_answer.specs.Source.{IsSource};
 use crate::graph_job::GraphJob;
 use crate::lines::site_lines;
 use crate::names::{stream_names, tokens_of};
-use crate::source::{Source, read_source};
+use crate::source::{Source, read_run};
 use crate::telling::RunAnswer;
 use control_run::run_control;
 use epoch_run_bodies::laws::agreeing_bodies_mean_one;
 use os_io::{Files, Memory};
-use osrun_core_jobs::{Refusal, Subject, load};
+use osrun_core_jobs::Refusal;
 use osrun_core_run::run_code;
 use osview_graph::{Drawn, graph_text};
 use std::alloc::Global;
@@ -27,19 +27,19 @@ use task_workers::Gate;
 fn tell_graph<R: Threads + Sync, G: Gate>(
     rt: &R,
     alloc: Global,
-    job: &GraphJob<'_>,
+    asked: &GraphJob<'_>,
     source: &Source,
     input: &[u8],
     gate: &G,
 ) -> Result<RunAnswer, Memory>
-    requires within { AreTerms job.now.run.terms }
+    requires within { AreTerms asked.now.job.terms }
     requires few { length input.now ≤ input_limit }
     requires source { IsSource source.now }
-    ensures { IfOk result (λ told. IsGraphOf job.now.run.terms.task_budget job.now.run.terms.control_budget source.now.text.items input.now
-        job.now.view told.text.items (status_code told.status)) }
+    ensures { IfOk result (λ told. IsGraphOf asked.now.job.terms.task_budget asked.now.job.terms.control_budget source.now.text.items input.now
+        asked.now.view told.text.items (status_code told.status)) }
 {
     agreeing_bodies_mean_one();
-    let terms = job.run.terms;
+    let terms = asked.job.terms;
     let tokens = tokens_of(alloc, &source.text)?;
     let names = stream_names(alloc, &tokens, source.checked.names.as_slice())?;
     let run = run_code(rt, alloc, terms, &source.code, input, gate)?;
@@ -59,7 +59,7 @@ fn tell_graph<R: Threads + Sync, G: Gate>(
         layout: &run.layout,
         ends: run.ends.ends.as_slice(),
     };
-    let text = graph_text(alloc, &drawn, job.view)?;
+    let text = graph_text(alloc, &drawn, asked.view)?;
     Ok(RunAnswer {
         text: text.into_bytes(),
         status: run.status(),
@@ -70,16 +70,15 @@ fn tell_graph<R: Threads + Sync, G: Gate>(
 pub(crate) fn make_graph<R: Threads + Sync, F: Files, G: Gate>(
     rt: &R,
     alloc: Global,
-    job: &GraphJob<'_>,
+    asked: &GraphJob<'_>,
     files: &mut F,
     gate: &G,
 ) -> Result<RunAnswer, Refusal>
-    requires may { MayOpen (F.may files.old) (F.opens files.old) (files_of (RunRequest (job_of job.now.run))) }
-    requires within { IsWithin (job_of job.now.run) }
-    ensures { MakesGraph F.Files files.old files.new (job_of job.now.run) job.now.view result }
+    requires may { MayOpen (F.may files.old) (F.opens files.old) (files_of (RunRequest (job_of asked.now.job))) }
+    requires within { IsWithin (job_of asked.now.job) }
+    ensures { MakesGraph F.Files files.old files.new (job_of asked.now.job) asked.now.view result }
 {
-    let source = read_source(alloc, files, job.run.program)?;
-    let input = load(alloc, files, job.run.input, Subject::Input)?;
-    let told = tell_graph(rt, alloc, job, &source, &input, gate)?;
+    let read = read_run(alloc, files, &asked.job)?;
+    let told = tell_graph(rt, alloc, asked, &read.source, &read.input, gate)?;
     Ok(told)
 }

@@ -11,11 +11,11 @@ ghost use Rattle.osview_answer.specs.Steps.{AreSteps};
 
 use crate::lines::site_lines;
 use crate::main_run::run_main;
-use crate::source::{Source, read_source};
+use crate::source::{Source, read_run};
 use crate::telling::RunAnswer;
 use epoch_run_bodies::laws::agreeing_bodies_mean_one;
 use os_io::{Files, Memory};
-use osrun_core_jobs::{Job, Refusal, Subject, Terms, load};
+use osrun_core_jobs::{Job, Refusal, Terms};
 use osrun_core_run::run_code;
 use osview_steps::{measure, steps_text};
 use std::alloc::Global;
@@ -81,8 +81,7 @@ pub(crate) fn make_steps<R: Threads + Sync, F: Files, G: Gate>(
     requires within { IsWithin (job_of job.now) }
     ensures { MakesSteps F.Files files.old files.new (job_of job.now) result }
 {
-    let source = read_source(alloc, files, job.program)?;
-    let input = load(alloc, files, job.input, Subject::Input)?;
-    let told = tell_steps(rt, alloc, job.terms, &source, &input, gate)?;
+    let read = read_run(alloc, files, job)?;
+    let told = tell_steps(rt, alloc, job.terms, &read.source, &read.input, gate)?;
     Ok(told)
 }

@@ -18,18 +18,18 @@ use task_workers::Gate;
 pub fn answer_stream<R: Threads + Sync, F: Files, O: Sink, E: Sink, G: Gate>(
     rt: &R,
     alloc: Global,
-    job: &StreamJob<'_>,
+    asked: &StreamJob<'_>,
     files: &mut F,
     out: &mut O,
     report: &mut E,
     gate: &G,
 ) -> Status
-    requires within { IsWithin (job_of job.now.run) }
-    requires may { MayOpen (F.may files.old) (F.opens files.old) (files_of (RunRequest (job_of job.now.run))) }
+    requires within { IsWithin (job_of asked.now.job) }
+    requires may { MayOpen (F.may files.old) (F.opens files.old) (files_of (RunRequest (job_of asked.now.job))) }
     ensures { AnswersStream F.Files files.old files.new O.Sink out.old out.new E.Sink report.old report.new
-        (job_of job.now.run) (asked_of job.now) result }
+        (job_of asked.now.job) (asked_of asked.now) result }
 {
-    match make_stream(rt, alloc, job, files, gate) {
+    match make_stream(rt, alloc, asked, files, gate) {
         Ok(StreamTold::Elements(told)) => {
             deliver(out, report, &told.text, &NoLines, told.status)
         }

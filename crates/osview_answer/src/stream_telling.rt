@@ -13,13 +13,13 @@ ghost use Rattle.osview_answer.specs.Streams.{IsTold, MakesStream, asked_of};
 use crate::lines::task_lines;
 use crate::names::{stream_names, tokens_of};
 use crate::outcomes::task_outcomes;
-use crate::source::{Source, read_source};
+use crate::source::{Source, read_run};
 use crate::stream_job::StreamJob;
 use crate::telling::RunAnswer;
 use control_run::run_control;
 use epoch_run_bodies::laws::agreeing_bodies_mean_one;
 use os_io::{Files, Memory};
-use osrun_core_jobs::{Refusal, Subject, load};
+use osrun_core_jobs::Refusal;
 use osrun_core_run::run_code;
 use osview_stream::{Shown, called_stream, elements_text};
 use osview_text::Text;
@@ -41,20 +41,20 @@ pub(crate) enum StreamTold {
 fn tell_elements<R: Threads + Sync, G: Gate>(
     rt: &R,
     alloc: Global,
-    job: &StreamJob<'_>,
+    asked: &StreamJob<'_>,
     source: &Source,
     input: &[u8],
     stream: u32,
     gate: &G,
 ) -> Result<RunAnswer, Memory>
-    requires within { AreTerms job.now.run.terms }
+    requires within { AreTerms asked.now.job.terms }
     requires few { length input.now ≤ input_limit }
     requires source { IsSource source.now }
-    ensures { IfOk result (λ told. AreElements job.now.run.terms.task_budget job.now.run.terms.control_budget
-        (program_tree source.now.checked.program) input.now stream job.now.first job.now.count told.text.items (status_code told.status)) }
+    ensures { IfOk result (λ told. AreElements asked.now.job.terms.task_budget asked.now.job.terms.control_budget
+        (program_tree source.now.checked.program) input.now stream asked.now.first asked.now.count told.text.items (status_code told.status)) }
 {
     agreeing_bodies_mean_one();
-    let terms = job.run.terms;
+    let terms = asked.job.terms;
     let run = run_code(rt, alloc, terms, &source.code, input, gate)?;
     let control = run_control(
         alloc,
@@ -78,7 +78,7 @@ fn tell_elements<R: Threads + Sync, G: Gate>(
         input,
         lines: &lines,
     };
-    let text = elements_text(alloc, &shown, stream, job.first, job.count)?;
+    let text = elements_text(alloc, &shown, stream, asked.first, asked.count)?;
     Ok(RunAnswer {
         text: text.into_bytes(),
         status: run.status(),
@@ -100,23 +100,23 @@ fn unnamed_text(alloc: Global, name: &[u8]) -> Result<Vec<u8>, Memory>
 pub(crate) fn tell_stream<R: Threads + Sync, G: Gate>(
     rt: &R,
     alloc: Global,
-    job: &StreamJob<'_>,
+    asked: &StreamJob<'_>,
     source: &Source,
     input: &[u8],
     gate: &G,
 ) -> Result<StreamTold, Memory>
-    requires within { AreTerms job.now.run.terms }
+    requires within { AreTerms asked.now.job.terms }
     requires few { length input.now ≤ input_limit }
     requires source { IsSource source.now }
-    ensures { IfOk result (λ told. IsTold job.now.run.terms.task_budget job.now.run.terms.control_budget source.now.text.items input.now
-        (asked_of job.now) told) }
+    ensures { IfOk result (λ told. IsTold asked.now.job.terms.task_budget asked.now.job.terms.control_budget source.now.text.items input.now
+        (asked_of asked.now) told) }
 {
     let tokens = tokens_of(alloc, &source.text)?;
     let names = stream_names(alloc, &tokens, source.checked.names.as_slice())?;
-    let name = job.name.as_bytes();
+    let name = asked.name.as_bytes();
     match called_stream(&source.text, source.code.streams, &names, name) {
         Some(stream) => {
-            let told = tell_elements(rt, alloc, job, source, input, stream, gate)?;
+            let told = tell_elements(rt, alloc, asked, source, input, stream, gate)?;
             Ok(StreamTold::Elements(told))
         }
         None => {
@@ -130,16 +130,15 @@ pub(crate) fn tell_stream<R: Threads + Sync, G: Gate>(
 pub(crate) fn make_stream<R: Threads + Sync, F: Files, G: Gate>(
     rt: &R,
     alloc: Global,
-    job: &StreamJob<'_>,
+    asked: &StreamJob<'_>,
     files: &mut F,
     gate: &G,
 ) -> Result<StreamTold, Refusal>
-    requires may { MayOpen (F.may files.old) (F.opens files.old) (files_of (RunRequest (job_of job.now.run))) }
-    requires within { IsWithin (job_of job.now.run) }
-    ensures { MakesStream F.Files files.old files.new (job_of job.now.run) (asked_of job.now) result }
+    requires may { MayOpen (F.may files.old) (F.opens files.old) (files_of (RunRequest (job_of asked.now.job))) }
+    requires within { IsWithin (job_of asked.now.job) }
+    ensures { MakesStream F.Files files.old files.new (job_of asked.now.job) (asked_of asked.now) result }
 {
-    let source = read_source(alloc, files, job.run.program)?;
-    let input = load(alloc, files, job.run.input, Subject::Input)?;
-    let told = tell_stream(rt, alloc, job, &source, &input, gate)?;
+    let read = read_run(alloc, files, &asked.job)?;
+    let told = tell_stream(rt, alloc, asked, &read.source, &read.input, gate)?;
     Ok(told)
 }

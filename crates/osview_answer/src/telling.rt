@@ -9,11 +9,11 @@ ghost use Rattle.osview_answer.specs.Told.{IsReportOf};
 
 use crate::lines::task_lines;
 use crate::names::{stream_names, tokens_of};
-use crate::source::{Source, read_source};
+use crate::source::{Source, read_run};
 use control_run::run_control;
 use epoch_run_bodies::laws::agreeing_bodies_mean_one;
 use os_io::{Files, Memory};
-use osrun_core_jobs::{Job, Refusal, Status, Subject, Terms, load};
+use osrun_core_jobs::{Job, Refusal, Status, Terms};
 use osrun_core_run::run_code;
 use osview_sentences::report_text;
 use std::alloc::Global;
@@ -81,8 +81,7 @@ pub(crate) fn make_report<R: Threads + Sync, F: Files, G: Gate>(
     requires within { IsWithin (job_of job.now) }
     ensures { Makes F.Files files.old files.new (job_of job.now) result }
 {
-    let source = read_source(alloc, files, job.program)?;
-    let input = load(alloc, files, job.input, Subject::Input)?;
-    let told = tell_run(rt, alloc, job.terms, &source, &input, gate)?;
+    let read = read_run(alloc, files, job)?;
+    let told = tell_run(rt, alloc, job.terms, &read.source, &read.input, gate)?;
     Ok(told)
 }

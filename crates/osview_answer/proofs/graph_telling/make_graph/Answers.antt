@@ -1,64 +1,25 @@
-use Rattle.std.proofs.Common.{[], ◌∷◌, subst}
+use Rattle.std.proofs.Common.{[], ◌∷◌, inl, inr, subst}
 use Rattle.std.proofs.lemmas.Result.{err_from_is_err_and}
-use Rattle.osrun_core_answer.proofs.Loaded.{not_loaded, opened_so, was_read}
-use Rattle.osrun_core_answer.proofs.MadeRun.{both_read, cause_of_first, cause_of_second, input_file, may_open_first, may_open_second, memory_wanted, program_file}
 use Rattle.osrun_core_jobs.specs.Jobs.{job_of}
-use Rattle.osrun_core_jobs.specs.declared.subject.Subject.TheVariants as subjects
 use Rattle.osrun_core_jobs.specs.Status.{status_code}
 use Rattle.osview_answer.specs.Drawn.{IsGraphOf}
 use Rattle.osview_answer.proofs.graph_telling.make_graph.Goals as goal
 
-pub read_source-requires : goal.read_source-requires
-read_source-requires g c =
-    may_open_first (g.F.Files.may c.args.files.now) (g.F.Files.opens c.args.files.now) (program_file c.args.job.now.run.program.now) (input_file c.args.job.now.run.input.now ∷ []) (g.met.F.Files.may_at_last c.args.files.now) c.requires.may
-
-pub returns-in_err-source : goal.returns-in_err-source
-returns-in_err-source g c =
-    let e = err_from_is_err_and c.from_residual.result c.from_residual.ensures.1 in
-    let l = c.in_err-source.ensures in
-    rw (e.1, e.2) (cause_of_first g.F.Files (program_file c.args.job.now.run.program.now) (input_file c.args.job.now.run.input.now ∷ []) c.args.files.now c.read_source.new.files c.in_err-source.field-0.0 l.0 l.1)
-
-pub load-requires : goal.load-requires
-load-requires g c =
-    let was = c.in_ok-source.ensures.0 in
-    let allowed = may_open_second (g.F.Files.may c.args.files.now) (g.F.Files.opens c.args.files.now) (program_file c.args.job.now.run.program.now) (input_file c.args.job.now.run.input.now) [] (g.met.F.Files.may_at_last c.args.files.now) c.requires.may in
-    rw (was.may_kept, was.opened) allowed
-
-pub returns-in_err-input : goal.returns-in_err-input
-returns-in_err-input g c =
-    let e = err_from_is_err_and c.from_residual-in_err-input.result c.from_residual-in_err-input.ensures.1 in
-    let was = c.in_ok-source.ensures.0 in
-    let l = c.in_err-input.ensures in
-    let between = c.read_source.new.files in
-    let new = c.load.new.files in
-    rw (e.1, e.2) (cause_of_second g.F.Files (program_file c.args.job.now.run.program.now) (input_file c.args.job.now.run.input.now) [] c.args.files.now between new c.in_ok-source.source.text.items c.in_err-input.field-0.0 was
-    (opened_so g.F.Files between new (input_file c.args.job.now.run.input.now) l.opens l.left l.faults_kept l.holds l.may)
-    (not_loaded g.F.Files between new subjects.Input c.args.job.now.run.input.now c.in_err-input.field-0.0 l.refused l.no_fault))
-
 pub returns-in_err-told : goal.returns-in_err-told
 returns-in_err-told g c =
     let e = err_from_is_err_and c.from_residual-in_err-told.result c.from_residual-in_err-told.ensures.1 in
-    let was = c.in_ok-source.ensures.0 in
-    let l = c.in_ok-input.ensures in
-    let between = c.read_source.new.files in
-    let new = c.load.new.files in
-    rw e.1 (memory_wanted g.F.Files (program_file c.args.job.now.run.program.now) (input_file c.args.job.now.run.input.now) c.args.files.now between new c.in_ok-source.source.text.items c.in_ok-input.input.items e.0 e.2 was
-    (was_read g.F.Files between new subjects.Input c.args.job.now.run.input.now c.in_ok-input.input.items l.loaded tt l.opens l.no_fault l.holds l.may))
+    let files = c.in_ok-read.read in
+    rw e.1 (inr (e.2, inr (inl (files.source.text.items ∷ files.input.items ∷ [], c.in_ok-read.ensures.read))))
 
 pub returns : goal.returns
 returns g c =
-    let job = job_of c.args.job.now.run in
-    let was = c.in_ok-source.ensures.0 in
-    let l = c.in_ok-input.ensures in
-    let between = c.read_source.new.files in
-    let new = c.load.new.files in
-    let text = c.in_ok-source.source.text.items in
-    let input = c.in_ok-input.input.items in
+    let job = job_of c.args.asked.now.job in
+    let files = c.in_ok-read.read in
+    let text = files.source.text.items in
     let told = c.in_ok-told.told in
     record {
       text = text;
-      input = input;
-      read = both_read g.F.Files (program_file c.args.job.now.run.program.now) (input_file c.args.job.now.run.input.now) c.args.files.now between new text input was
-          (was_read g.F.Files between new subjects.Input c.args.job.now.run.input.now input l.loaded tt l.opens l.no_fault l.holds l.may);
-      is_graph = subst (λ bytes. IsGraphOf job.task_budget job.control_budget text bytes c.args.job.now.view told.text.items (status_code told.status)) c.deref.ensures.value c.in_ok-told.ensures;
+      input = files.input.items;
+      read = c.in_ok-read.ensures.read;
+      is_graph = subst (λ bytes. IsGraphOf job.task_budget job.control_budget text bytes c.args.asked.now.view told.text.items (status_code told.status)) c.deref.ensures.value c.in_ok-told.ensures;
     }

@@ -41,8 +41,8 @@ returns g c =
     let run = c.in_ok-run.run' in
     let tokens = c.in_ok-tokens.tokens.items in
     let same_made : c.in_ok-control.control ≡ r.made =
-    c.in_ok-control.ensures.exact ∙ is_source.is_code.control (length input) c.args.job.now.run.terms.control_budget ∙ sym r.made_is in
-    let view = c.args.job.now.view in
+    c.in_ok-control.ensures.exact ∙ is_source.is_code.control (length input) c.args.asked.now.job.terms.control_budget ∙ sym r.made_is in
+    let view = c.args.asked.now.view in
     let drawn : List ℕ → List StreamName → List ℕ → ℕ → List Activation → ℕ → List (Option TaskEnd) → DrawnRun =
     λ text named lines count activations input_len ends.
     record { text = text; names = named; lines = lines; streams = count; activations = activations; input_len = input_len; ends = ends } in

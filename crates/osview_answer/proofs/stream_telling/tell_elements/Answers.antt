@@ -46,7 +46,7 @@ returns g c =
     let p = program_tree source.checked.program in
     let is_source = c.requires.source in
     let input = c.args.input.now in
-    let budget = c.args.job.now.run.terms.task_budget in
+    let budget = c.args.asked.now.job.terms.task_budget in
     let r = run_of_code c.agreeing_bodies_mean_one.ensures code p is_source.is_code _ _ _ _ _ _ _ c.in_ok-run.ensures.run in
     let run = c.in_ok-run.run' in
     let made = r.made in
@@ -54,7 +54,7 @@ returns g c =
     let acts = c.as_slice-activations.result.now in
     let meaning = stream_meaning activations input (body_at p activations budget) in
     let same_made : c.in_ok-control.control ≡ made =
-    c.in_ok-control.ensures.exact ∙ is_source.is_code.control (length input) c.args.job.now.run.terms.control_budget ∙ sym r.made_is in
+    c.in_ok-control.ensures.exact ∙ is_source.is_code.control (length input) c.args.asked.now.job.terms.control_budget ∙ sym r.made_is in
     let same_acts : acts ≡ activations = c.as_slice-activations.ensures ∙ ap (λ (m : Control). m.activations) same_made in
     let fit = subst (λ (m : Control). All (Fits code) m.activations) same_made c.in_ok-control.ensures.fit in
     let same_state : stream_meaning acts input (frame_outcome code acts budget) ≡ meaning =
@@ -69,6 +69,6 @@ returns g c =
       meaning = meaning;
       meaning_is = refl;
       told_is = c.into_bytes.ensures ∙ c.in_ok-text.ensures activations meaning r.laid are
-          ∙ ap (λ lines. stream_lines lines activations input meaning c.args.stream c.args.job.now.first c.args.job.now.count) same_lines_of;
+          ∙ ap (λ lines. stream_lines lines activations input meaning c.args.stream c.args.asked.now.first c.args.asked.now.count) same_lines_of;
       own_is = c.status.ensures ∙ ap (λ (e : Ends). status e.ends run.control) r.ends_are ∙ ap (status (ends_of meaning)) r.end_is;
     }
