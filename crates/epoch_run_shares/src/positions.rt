@@ -10,7 +10,7 @@ ghost use Rattle.epoch_run_shares.specs.Positions.{HasTaken, HavePassed, PassMor
 use flow_core_laws::{Activation, Claim};
 use os_io::Memory;
 use std::alloc::Global;
-use stream_match_layouts::{Cursors, Span};
+use stream_match_layouts::{Cursors, Offsets, Span};
 
 /// Where the streams stand behind activations that were passed, and the windows of the last of these. It holds nothing of the ones before.
 #[derive(Drop)]
@@ -57,17 +57,11 @@ impl Positions {
             → self.new.spans.items ≡ map span_of (windows_of (passed ++ activation.now ∷ []) (length passed))) }
     {
         let frame = self.count as u16;
-        let mut inputs = 0;
-        let mut outputs = 0;
+        let mut offsets = Offsets::new();
         self.spans.clear();
         for claim in activation.claims.as_slice() {
-            if claim.write {
-                self.take(frame, claim, outputs)?;
-                outputs += claim.horizon;
-            } else {
-                self.take(frame, claim, inputs)?;
-                inputs += claim.horizon;
-            }
+            let offset = offsets.next(claim);
+            self.take(frame, claim, offset)?;
         }
         self.count += 1;
         Ok(())

@@ -1,24 +1,31 @@
-use Rattle.std.proofs.Common.{◌≡◌, ◌∙◌, ◌+◌, ◌<◌, ℕ, true, false, cond, arith, refl, sym, ap, subst, length, take, List}
-use Rattle.std.specs.Bool.{beq}
+use Rattle.std.proofs.Common.{◌≡◌, ◌∙◌, ◌+◌, ◌^◌, ◌<◌, ℕ, arith, refl, sym, ap, subst, length, take, List}
 use Rattle.flow_core_laws.specs.declared.activation.Activation.{Activation}
 use Rattle.flow_core_laws.specs.declared.claim.Claim.{Claim}
 use Rattle.flow_core_laws.specs.Window.{claim_at, claims_of}
 use Rattle.stream_match_layouts.specs.Cursors.{HasCursors}
-use Rattle.stream_match_layouts.proofs.Appending.{alike-more}
-use Rattle.stream_match_layouts.proofs.Windows.{alike}
+use Rattle.stream_match_layouts.specs.Offsets.{offset_by}
+use Rattle.stream_match_layouts.specs.declared.offsets.Offsets.{Offsets}
+use Rattle.stream_match_layouts.proofs.OffsetsBehind.{behind-more, offset-fits, offset_by-alike}
 use Rattle.epoch_run_shares.specs.Positions.{HavePassed}
 use Rattle.epoch_run_shares.specs.declared.positions.Positions.{Positions}
 use Rattle.epoch_run_shares.proofs.Passing.{HaveAdded, added_next, alike_fits, all_added, cursors_at, none_added, same_streams, spans_added, stream_exists}
 use Rattle.epoch_run_shares.proofs.positions.Positions.pass.Goals as goal
-use Rattle.epoch_run_shares.proofs.positions.Positions.pass.Goals.{then-claim+in_ok-take, else-claim+in_ok-take-2}
 
 pub loop-claim-init : goal.loop-claim-init
 loop-claim-init c = record {
   added = λ streams passed h. none_added streams c.args.self.now.count passed c.args.activation.now.claims c.args.self.now _ h refl refl c.clear.ensures.items;
   count = refl;
-  inputs = refl;
-  outputs = refl;
+  offsets = record { inputs = ap (λ (o : Offsets). o.inputs) c.new-offsets.ensures; outputs = ap (λ (o : Offsets). o.outputs) c.new-offsets.ensures };
 }
+
+pub next-offset-requires : goal.next-offset-requires
+next-offset-requires c =
+    let items = c.as_slice-claim-items.ensures in
+    let k = c.loop-claim.claim-index in
+    let lt = subst (λ xs. k < length xs) items c.loop-claim-test.true in
+    subst (λ xs. offset_by c.loop-claim.offsets (claim_at xs k) + (claim_at xs k).horizon < 2 ^ 32) (sym items)
+    (offset-fits (take k c.args.activation.now.claims) c.loop-claim.offsets (claim_at c.args.activation.now.claims k) c.loop-claim.invariant.offsets
+    (λ b. alike_fits c.args.self.now c.args.activation.now c.requires b k lt))
 
 pub take-requires : goal.take-requires
 take-requires c =
@@ -27,30 +34,6 @@ take-requires c =
     let lt : k < length c.args.activation.now.claims = subst (λ xs. k < length xs) items c.loop-claim-test.true in
     subst (λ xs. HasCursors c.loop-claim.self.cursors (claim_at xs k)) (sym items)
     (cursors_at c.args.self.now c.args.activation.now c.requires k lt c.args.self.now.count c.loop-claim.self (c.loop-claim.invariant.added c.requires.streams c.requires.passed c.requires.have_passed))
-
-pub take-requires-else-claim : goal.take-requires-else-claim
-take-requires-else-claim c =
-    let items = c.as_slice-claim-items.ensures in
-    let k = c.loop-claim.claim-index in
-    let lt : k < length c.args.activation.now.claims = subst (λ xs. k < length xs) items c.loop-claim-test.true in
-    subst (λ xs. HasCursors c.loop-claim.self.cursors (claim_at xs k)) (sym items)
-    (cursors_at c.args.self.now c.args.activation.now c.requires k lt c.args.self.now.count c.loop-claim.self (c.loop-claim.invariant.added c.requires.streams c.requires.passed c.requires.have_passed))
-
-pub overflow_add-outputs : goal.overflow_add-outputs
-overflow_add-outputs c =
-    let items = c.as_slice-claim-items.ensures in
-    let k = c.loop-claim.claim-index in
-    let lt = subst (λ xs. k < length xs) items c.loop-claim-test.true in
-    let h = ap (λ xs. (claim_at xs k).horizon) items in
-    omega (arith, alike_fits c.args.self.now c.args.activation.now c.requires true k lt, h, c.loop-claim.invariant.outputs)
-
-pub overflow_add-inputs : goal.overflow_add-inputs
-overflow_add-inputs c =
-    let items = c.as_slice-claim-items.ensures in
-    let k = c.loop-claim.claim-index in
-    let lt = subst (λ xs. k < length xs) items c.loop-claim-test.true in
-    let h = ap (λ xs. (claim_at xs k).horizon) items in
-    omega (arith, alike_fits c.args.self.now c.args.activation.now c.requires false k lt, h, c.loop-claim.invariant.inputs)
 
 pub loop-claim-preserved : goal.loop-claim-preserved
 loop-claim-preserved c =
@@ -64,26 +47,13 @@ loop-claim-preserved c =
     let there : (streams : ℕ) (passed : List Activation) → HavePassed streams passed c.args.self.now → claim.stream < streams =
     λ streams passed h. subst (λ n. claim.stream < n) (same_streams c.args.self.now c.args.activation.now c.requires streams passed h)
     (subst (λ (d : Claim). d.stream < c.requires.streams) (sym is) (stream_exists c.args.self.now c.args.activation.now c.requires k lt)) in
-    elim c.if-claim.branch [
-      | then-claim+in_ok-take w ↦ (let none : c.loop-claim.inputs ≡ c.loop-claim.inputs + 0 = omega arith in
-          record {
-            added = λ streams passed h. subst (HaveAdded streams frame (claims_of passed) cl (k + 1)) (sym w.self-is)
-                (added_next streams frame (claims_of passed) cl k c.loop-claim.self (c.loop-claim.invariant.added streams passed h) claim is lt (there streams passed h)
-                c.loop-claim.outputs w.take.new.self (c.loop-claim.invariant.outputs ∙ ap (λ b. alike b (take k cl)) (sym w.if-claim.true)) w.in_ok-take.ensures);
-            count = ap (λ (p : Positions). p.count) w.self-is ∙ w.in_ok-take.ensures.count ∙ c.loop-claim.invariant.count;
-            inputs = alike-more false cl k c.loop-claim.inputs c.if-claim.inputs claim lt is c.loop-claim.invariant.inputs (w.inputs-is ∙ none ∙ ap (λ b. c.loop-claim.inputs + cond (beq false b) claim.horizon 0) (sym w.if-claim.true));
-            outputs = alike-more true cl k c.loop-claim.outputs c.if-claim.outputs claim lt is c.loop-claim.invariant.outputs (w.outputs-is ∙ ap (λ b. c.loop-claim.outputs + cond (beq true b) claim.horizon 0) (sym w.if-claim.true));
-          })
-      | else-claim+in_ok-take-2 w ↦ (let none : c.loop-claim.outputs ≡ c.loop-claim.outputs + 0 = omega arith in
-          record {
-            added = λ streams passed h. subst (HaveAdded streams frame (claims_of passed) cl (k + 1)) (sym w.self-is)
-                (added_next streams frame (claims_of passed) cl k c.loop-claim.self (c.loop-claim.invariant.added streams passed h) claim is lt (there streams passed h)
-                c.loop-claim.inputs w.take-else-claim.new.self (c.loop-claim.invariant.inputs ∙ ap (λ b. alike b (take k cl)) (sym w.if-claim.false)) w.in_ok-take-2.ensures);
-            count = ap (λ (p : Positions). p.count) w.self-is ∙ w.in_ok-take-2.ensures.count ∙ c.loop-claim.invariant.count;
-            inputs = alike-more false cl k c.loop-claim.inputs c.if-claim.inputs claim lt is c.loop-claim.invariant.inputs (w.inputs-is ∙ ap (λ b. c.loop-claim.inputs + cond (beq false b) claim.horizon 0) (sym w.if-claim.false));
-            outputs = alike-more true cl k c.loop-claim.outputs c.if-claim.outputs claim lt is c.loop-claim.invariant.outputs (w.outputs-is ∙ none ∙ ap (λ b. c.loop-claim.outputs + cond (beq true b) claim.horizon 0) (sym w.if-claim.false));
-          })
-    ]
+    let offset = c.next-offset.ensures.offset ∙ offset_by-alike (take k cl) c.loop-claim.offsets claim c.loop-claim.invariant.offsets in
+    record {
+      added = λ streams passed h. added_next streams frame (claims_of passed) cl k c.loop-claim.self (c.loop-claim.invariant.added streams passed h) claim is lt (there streams passed h)
+          c.next-offset.result c.take.new.self offset c.in_ok-take.ensures;
+      count = c.in_ok-take.ensures.count ∙ c.loop-claim.invariant.count;
+      offsets = behind-more cl k claim c.loop-claim.offsets c.next-offset.new.self lt is c.loop-claim.invariant.offsets c.next-offset.ensures.counted;
+    }
 
 pub returns-clause-passed : goal.returns-clause-passed
 returns-clause-passed c = λ streams passed h.

@@ -1,7 +1,7 @@
-use Rattle.std.proofs.Common.{◌≡◌, ℕ, List, false, true, take}
+use Rattle.std.proofs.Common.{◌≡◌, ℕ, List, take}
 use Rattle.flow_core_laws.specs.Window.{claims_of}
 use Rattle.flow_core_laws.specs.declared.activation.Activation.{Activation}
-use Rattle.stream_match_layouts.proofs.Windows.{alike}
+use Rattle.stream_match_layouts.proofs.OffsetsBehind.{AreBehind}
 use Rattle.epoch_run_shares.specs.Positions.{HavePassed}
 use Rattle.epoch_run_shares.proofs.Passing.{HaveAdded}
 use Rattle.epoch_run_shares.proofs.positions.Positions.pass.Given as goal
@@ -11,6 +11,5 @@ abbrev pub invariant-loop-claim : goal.invariant-loop-claim
 invariant-loop-claim l = record {
   added : (streams : ℕ) (passed : List Activation) → HavePassed streams passed l.fn.self → HaveAdded streams l.frame (claims_of passed) l.activation.claims l.claim-index l.self;
   count : l.self.count ≡ l.fn.self.count;
-  inputs : l.inputs ≡ alike false (take l.claim-index l.activation.claims);
-  outputs : l.outputs ≡ alike true (take l.claim-index l.activation.claims);
+  offsets : AreBehind (take l.claim-index l.activation.claims) l.offsets;
 }
