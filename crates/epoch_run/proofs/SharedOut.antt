@@ -30,18 +30,18 @@ module _ (code : Code) (input : List ℕ) (budgets : Budgets) where
   all = created (parts_of code) input budgets
 
   -- what ran in control order are first ones of all
-  pub first_ones_ran : (run : Standing) (order : InOrder) → HaveRunInOrder code input budgets run order → FirstOnesRan code input budgets order
-  first_ones_ran run order ran = record {
+  pub first_ones_ran : (standing : Standing) (order : InOrder) → HaveRunInOrder code input budgets standing order → FirstOnesRan code input budgets order
+  first_ones_ran standing order ran = record {
     ready = ran.goes.ready;
     within = let w = ran.goes.within in omega (arith, w, many);
     behind = subst (λ (xs : List Activation). StandsBehind (parts_of code) all xs input budgets.task order) same ran.goes.behind;
   }
     where
       given : List Activation
-      given = created_so_far run.control
+      given = created_so_far standing.control
 
       first : given ≡ take (length given) all
-      first = are_first code input budgets run.control run.layout ran.goes.laid_out
+      first = are_first code input budgets standing.control standing.layout ran.goes.laid_out
 
       many : length given ≤ length all
       many = let a = ap length first ∙ length-take (length given) all in omega (arith, a)
@@ -81,17 +81,17 @@ module _ (code : Code) (input : List ℕ) (budgets : Budgets) where
       before = take share.count all
 
   -- a stretch more is created and laid out
-  pub laid_on : (run after : Standing) (count : ℕ) → AreLaidOut code input budgets run.control run.layout → HasCreated count run.control after.control [] after.activations
-      → ((before : List Activation) → IsLayoutOf run.layout before → IsLayoutOf after.layout (before ++ after.activations)) → length after.layout.writers ≡ length run.layout.writers
-      → after.layout.input_len ≡ run.layout.input_len → AreLaidOut code input budgets after.control after.layout
-  laid_on run after count laid made is streams over = next_laid_out code input budgets run.control run.layout laid count after.control after.activations made after.layout (is (created_so_far run.control) laid.laid) streams over
+  pub laid_on : (standing after : Standing) (count : ℕ) → AreLaidOut code input budgets standing.control standing.layout → HasCreated count standing.control after.control [] after.activations
+      → ((before : List Activation) → IsLayoutOf standing.layout before → IsLayoutOf after.layout (before ++ after.activations)) → length after.layout.writers ≡ length standing.layout.writers
+      → after.layout.input_len ≡ standing.layout.input_len → AreLaidOut code input budgets after.control after.layout
+  laid_on standing after count laid made is streams over = next_laid_out code input budgets standing.control standing.layout laid count after.control after.activations made after.layout (is (created_so_far standing.control) laid.laid) streams over
 
   -- those that haven't run are the others
-  pub taken_up : (run : Standing) (after : Standing) (order : InOrder) → AreSharedOut code input budgets run.control run.layout order
+  pub taken_up : (standing : Standing) (after : Standing) (order : InOrder) → AreSharedOut code input budgets standing.control standing.layout order
       → AreLaidOut code input budgets after.control after.layout → created_so_far after.control ≡ all
       → after.first ≡ length order.ends → after.activations ≡ drop (length order.ends) all
       → GoesInOrder code input budgets after order
-  taken_up run after order shared laid same first list = record {
+  taken_up standing after order shared laid same first list = record {
     laid_out = laid;
     are_last = list ∙ ap (λ n. drop n all) (sym first) ∙ ap (drop after.first) (sym same);
     have_run = omega (arith, first);
@@ -101,8 +101,8 @@ module _ (code : Code) (input : List ℕ) (budgets : Budgets) where
   }
 
   -- with none left
-  pub none_left : (run : Standing) (order : InOrder) → AreSharedOut code input budgets run.control run.layout order → length (created_so_far run.control) ≤ length order.ends → [] ≡ drop (length order.ends) all
-  none_left run order shared all_ran = sym (drop_all (length order.ends) all (let s = ap length shared.all in omega (arith, s, all_ran)))
+  pub none_left : (standing : Standing) (order : InOrder) → AreSharedOut code input budgets standing.control standing.layout order → length (created_so_far standing.control) ≤ length order.ends → [] ≡ drop (length order.ends) all
+  none_left standing order shared all_ran = sym (drop_all (length order.ends) all (let s = ap length shared.all in omega (arith, s, all_ran)))
 
   -- before the control program has created any
   pub none_laid_out : (so_far : RunSoFar) (layout : Layout) → so_far ≡ not_begun (parts_of code) (length input) budgets.control → 2 ≤ code.streams → IsLayoutOf layout []
@@ -123,12 +123,12 @@ module _ (code : Code) (input : List ℕ) (budgets : Budgets) where
       no_given = ap created_so_far is
 
   -- those that ran are created and laid out, and no others
-  pub created_anew : (run : Standing) (order : InOrder) → FirstOnesRan code input budgets order → AreLaidOut code input budgets run.control run.layout
-      → length (created_so_far run.control) ≡ length order.ends → run.first ≡ length order.ends → run.activations ≡ [] → HaveRunInOrder code input budgets run order
-  created_anew run order ran laid count first none = record {
+  pub created_anew : (standing : Standing) (order : InOrder) → FirstOnesRan code input budgets order → AreLaidOut code input budgets standing.control standing.layout
+      → length (created_so_far standing.control) ≡ length order.ends → standing.first ≡ length order.ends → standing.activations ≡ [] → HaveRunInOrder code input budgets standing order
+  created_anew standing order ran laid count first none = record {
     goes = record {
       laid_out = laid;
-      are_last = none ∙ sym (drop_all run.first given (omega (arith, first, count)));
+      are_last = none ∙ sym (drop_all standing.first given (omega (arith, first, count)));
       have_run = omega (arith, first);
       within = omega (arith, count);
       ready = ran.ready;
@@ -138,17 +138,17 @@ module _ (code : Code) (input : List ℕ) (budgets : Budgets) where
   }
     where
       given : List Activation
-      given = created_so_far run.control
+      given = created_so_far standing.control
 
       same : take (length order.ends) all ≡ take (length order.ends) given
       same =
           ap (λ n. take n all) (sym count)
-          ∙ sym (are_first code input budgets run.control run.layout laid)
+          ∙ sym (are_first code input budgets standing.control standing.layout laid)
           ∙ sym (take_all (length order.ends) given (omega (arith, count)))
 
   -- how many had run at the last try makes no difference
-  pub tried_at : (run : Standing) (order : InOrder) → HaveRunInOrder code input budgets run order → (tried : ℕ) → HaveRunInOrder code input budgets (record run { tried = tried }) order
-  tried_at run order ran tried = record {
+  pub tried_at : (standing : Standing) (order : InOrder) → HaveRunInOrder code input budgets standing order → (tried : ℕ) → HaveRunInOrder code input budgets (record standing { tried = tried }) order
+  tried_at standing order ran tried = record {
     goes = record {
       laid_out = ran.goes.laid_out;
       are_last = ran.goes.are_last;

@@ -33,6 +33,6 @@ pub record AreSharedOut (code : Code) (input : List ℕ) (budgets : Budgets) (so
   pub ran : FirstOnesRan code input budgets order
 
 -- What shares leave that were run: all activations are created and laid out, the first ones have run, and no fewer than before.
-pub record SharesOut (code : Code) (input : List ℕ) (budgets : Budgets) (run : Standing) (before after : InOrder) : Type 0 where
-  pub shared : AreSharedOut code input budgets run.control run.layout after
+pub record SharesOut (code : Code) (input : List ℕ) (budgets : Budgets) (standing : Standing) (before after : InOrder) : Type 0 where
+  pub shared : AreSharedOut code input budgets standing.control standing.layout after
   pub no_fewer : length before.ends ≤ length after.ends

@@ -141,16 +141,16 @@ fn run_by<R: Threads + Sync, G: Gate>(
     ensures lawful { IfOk result (λ run. AreLawful code.now.streams (created (parts_of code.now) input.now budgets)) }
 {
     keep_room_in_place(alloc, workers);
-    let mut run = Standing::new(alloc, code, input, budgets)?;
+    let mut standing = Standing::new(alloc, code, input, budgets)?;
     let end = 'epochs: loop {
-        let next = run.next_size(size, workers);
-        let end = run.go_on(rt, alloc, code, input, budgets, workers, gate, next, way)?;
+        let next = standing.next_size(size, workers);
+        let end = standing.go_on(rt, alloc, code, input, budgets, workers, gate, next, way)?;
         if let Some(end) = end {
             break 'epochs end;
         }
     };
-    run.run_last(rt, alloc, code, input, budgets, workers, gate)?;
-    let Standing { layout, held, .. } = run;
+    standing.run_last(rt, alloc, code, input, budgets, workers, gate)?;
+    let Standing { layout, held, .. } = standing;
     let Held { ends, .. } = held;
     Ok(RunResult {
         layout,

@@ -28,7 +28,7 @@ use std::thread::{Threads, join_mut};
 /// activations, and lays them out. What ran is put behind those that had run before. After `Memory` the run is to be given up.
 pub(crate) fn run_shares<R: Threads + Sync>(
     rt: &R,
-    run: &mut Standing<'_>,
+    standing: &mut Standing<'_>,
     order: &mut InOrder,
     alloc: Global,
     code: &Code,
@@ -39,11 +39,11 @@ pub(crate) fn run_shares<R: Threads + Sync>(
 ) -> Result<(), Memory>
     requires input { length input.now ≤ input_limit }
     requires budgets { AreBudgets budgets }
-    requires ran { HaveRunInOrder code.now input.now budgets run.old order.old }
-    ensures { OnOk result (SharesOut code.now input.now budgets run.new order.old order.new) }
+    requires ran { HaveRunInOrder code.now input.now budgets standing.old order.old }
+    ensures { OnOk result (SharesOut code.now input.now budgets standing.new order.old order.new) }
 {
     if number == 0 {
-        return lead_apart(rt, run, order, alloc, code, input, budgets, borders);
+        return lead_apart(rt, standing, order, alloc, code, input, budgets, borders);
     }
     let mut share: Option<Apart> = None;
     let mut own = || -> Result<(), Memory>
@@ -53,12 +53,12 @@ pub(crate) fn run_shares<R: Threads + Sync>(
     { set_share(alloc, code, input, budgets, borders, number, &mut share) };
     let mut others = || -> Result<(), Memory>
         requires { IsSync R.row × (1 ≤ number) × (length input.now ≤ input_limit) × AreBudgets budgets
-            × HaveRunInOrder code.now input.now budgets run.now order.now }
-        ensures { OnOk result (SharesOut code.entry.now input.entry.now budgets run.exit.now order.entry.now order.exit.now) }
+            × HaveRunInOrder code.now input.now budgets standing.now order.now }
+        ensures { OnOk result (SharesOut code.entry.now input.entry.now budgets standing.exit.now order.entry.now order.exit.now) }
     {
         run_shares(
             rt,
-            run,
+            standing,
             order,
             alloc,
             code,
@@ -124,7 +124,7 @@ fn run_numbered(
 /// other would wait there until one of the two is moved, which takes milliseconds.
 fn lead_apart<R: Threads + Sync>(
     rt: &R,
-    run: &mut Standing<'_>,
+    standing: &mut Standing<'_>,
     order: &mut InOrder,
     alloc: Global,
     code: &Code,
@@ -134,13 +134,13 @@ fn lead_apart<R: Threads + Sync>(
 ) -> Result<(), Memory>
     requires input { length input.now ≤ input_limit }
     requires budgets { AreBudgets budgets }
-    requires ran { HaveRunInOrder code.now input.now budgets run.old order.old }
-    ensures { OnOk result (SharesOut code.now input.now budgets run.new order.old order.new) }
+    requires ran { HaveRunInOrder code.now input.now budgets standing.old order.old }
+    ensures { OnOk result (SharesOut code.now input.now budgets standing.new order.old order.new) }
 {
     let mut first = || -> Result<(), Memory>
-        requires { (length input.now ≤ input_limit) × AreBudgets budgets × HaveRunInOrder code.now input.now budgets run.now order.now }
-        ensures { OnOk result (SharesOut code.entry.now input.entry.now budgets run.exit.now order.entry.now order.exit.now) }
-    { lead(run, order, alloc, code, input, budgets, borders) };
+        requires { (length input.now ≤ input_limit) × AreBudgets budgets × HaveRunInOrder code.now input.now budgets standing.now order.now }
+        ensures { OnOk result (SharesOut code.entry.now input.entry.now budgets standing.exit.now order.entry.now order.exit.now) }
+    { lead(standing, order, alloc, code, input, budgets, borders) };
     let mut wait = || {};
     let (led, _) = join_mut(rt, &mut first, &mut wait);
     led
@@ -148,7 +148,7 @@ fn lead_apart<R: Threads + Sync>(
 
 /// Has the control program create all activations, lays them out, and runs the first share.
 fn lead(
-    run: &mut Standing<'_>,
+    standing: &mut Standing<'_>,
     order: &mut InOrder,
     alloc: Global,
     code: &Code,
@@ -158,26 +158,26 @@ fn lead(
 ) -> Result<(), Memory>
     requires input { length input.now ≤ input_limit }
     requires budgets { AreBudgets budgets }
-    requires ran { HaveRunInOrder code.now input.now budgets run.old order.old }
-    ensures { OnOk result (SharesOut code.now input.now budgets run.new order.old order.new) }
+    requires ran { HaveRunInOrder code.now input.now budgets standing.old order.old }
+    ensures { OnOk result (SharesOut code.now input.now budgets standing.new order.old order.new) }
 {
-    lay_out_rest(run, alloc)?;
+    lay_out_rest(standing, alloc)?;
     let apart = run_numbered(alloc, code, input, budgets, borders, 0)?;
     join_one(order, &apart)?;
     Ok(())
 }
 
 /// Has the control program create the activations that remain, and lays them out.
-fn lay_out_rest(run: &mut Standing<'_>, alloc: Global) -> Result<(), Memory>
-    requires laid { IsLaidOut run.old.control run.old.layout }
-    ensures laid { OnOk result ((code : Code) (input : List ℕ) (budgets : Budgets) → AreLaidOut code input budgets run.old.control run.old.layout
-        → AreLaidOut code input budgets run.new.control run.new.layout) }
-    ensures ended { OnOk result (run.new.control.has_ended ≡ true) }
-    ensures told { OnOk result (created_so_far run.new.control ≡ (whole run.new.control).activations) }
+fn lay_out_rest(standing: &mut Standing<'_>, alloc: Global) -> Result<(), Memory>
+    requires laid { IsLaidOut standing.old.control standing.old.layout }
+    ensures laid { OnOk result ((code : Code) (input : List ℕ) (budgets : Budgets) → AreLaidOut code input budgets standing.old.control standing.old.layout
+        → AreLaidOut code input budgets standing.new.control standing.new.layout) }
+    ensures ended { OnOk result (standing.new.control.has_ended ≡ true) }
+    ensures told { OnOk result (created_so_far standing.new.control ≡ (whole standing.new.control).activations) }
 {
     'stretches: loop {
-        create_stretch(run, alloc, STRETCH)?;
-        if run.control.end().is_some() {
+        create_stretch(standing, alloc, STRETCH)?;
+        if standing.control.end().is_some() {
             break 'stretches;
         }
     }

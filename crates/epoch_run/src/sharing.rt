@@ -32,7 +32,7 @@ const TRIED: u32 = 256;
 /// there. After `Memory` it is to be given up.
 pub(crate) fn share_out<'c, R: Threads + Sync>(
     rt: &R,
-    run: &mut Standing<'c>,
+    standing: &mut Standing<'c>,
     order: &mut InOrder,
     alloc: Global,
     code: &'c Code,
@@ -42,27 +42,27 @@ pub(crate) fn share_out<'c, R: Threads + Sync>(
 ) -> Result<bool, Memory>
     requires input { length input.now ≤ input_limit }
     requires budgets { AreBudgets budgets }
-    requires ran { HaveRunInOrder code.now input.now budgets run.old order.old }
-    ensures goes { IfOk result (λ all. all ≡ true → GoesInOrder code.now input.now budgets run.new order.new) }
-    ensures ended { IfOk result (λ all. all ≡ true → run.new.control.has_ended ≡ true) }
-    ensures told { IfOk result (λ all. all ≡ true → created_so_far run.new.control ≡ (whole run.new.control).activations) }
-    ensures stays { IfOk result (λ all. all ≡ false → HaveRunInOrder code.now input.now budgets run.new order.new) }
-    ensures no_fewer { IfOk result (λ all. all ≡ false → length (created_so_far run.old.control) ≤ length (created_so_far run.new.control)) }
+    requires ran { HaveRunInOrder code.now input.now budgets standing.old order.old }
+    ensures goes { IfOk result (λ all. all ≡ true → GoesInOrder code.now input.now budgets standing.new order.new) }
+    ensures ended { IfOk result (λ all. all ≡ true → standing.new.control.has_ended ≡ true) }
+    ensures told { IfOk result (λ all. all ≡ true → created_so_far standing.new.control ≡ (whole standing.new.control).activations) }
+    ensures stays { IfOk result (λ all. all ≡ false → HaveRunInOrder code.now input.now budgets standing.new order.new) }
+    ensures no_fewer { IfOk result (λ all. all ≡ false → length (created_so_far standing.old.control) ≤ length (created_so_far standing.new.control)) }
     ensures none_lost { OnOk result (length order.old.ends ≤ length order.new.ends) }
 {
     let first = order.ends.len() as u32;
-    if !is_worth_a_try(run, first, workers) {
+    if !is_worth_a_try(standing, first, workers) {
         return Ok(false);
     }
-    run.tried = first;
+    standing.tried = first;
     let apart = runs_apart(alloc, code, input, budgets, first)?;
     if !apart {
         return Ok(false);
     }
-    let borders = Borders::behind(&run.layout, run.held.pace, workers);
+    let borders = Borders::behind(&standing.layout, standing.held.pace, workers);
     run_shares(
         rt,
-        run,
+        standing,
         order,
         alloc,
         code,
@@ -71,14 +71,14 @@ pub(crate) fn share_out<'c, R: Threads + Sync>(
         borders,
         borders.last(),
     )?;
-    let all = take_up(run, order, alloc, code, input, budgets)?;
+    let all = take_up(standing, order, alloc, code, input, budgets)?;
     Ok(all)
 }
 
 /// Whether `workers` workers are to try to share a run out behind `first` activations: bodies are long enough, and at least twice as many activations
 /// have run as at the last try. So what all tries pass together grows with the number of activations, and not with its square.
-fn is_worth_a_try(run: &Standing<'_>, first: u32, workers: u32) -> bool {
-    run.held.pace.is_worth_shares(workers) && first >= run.tried.saturating_mul(2)
+fn is_worth_a_try(standing: &Standing<'_>, first: u32, workers: u32) -> bool {
+    standing.held.pace.is_worth_shares(workers) && first >= standing.tried.saturating_mul(2)
 }
 
 /// Whether some activations from a number on run apart from those before them.
@@ -109,7 +109,7 @@ fn runs_apart(
 /// Has a run that was shared out stand behind the activations that ran. It answers whether these are all; else the control program has come too far,
 /// as the layout has, and both are made anew for these alone.
 fn take_up<'c>(
-    run: &mut Standing<'c>,
+    standing: &mut Standing<'c>,
     order: &InOrder,
     alloc: Global,
     code: &'c Code,
@@ -118,24 +118,24 @@ fn take_up<'c>(
 ) -> Result<bool, Memory>
     requires input { length input.now ≤ input_limit }
     requires budgets { AreBudgets budgets }
-    requires shared { AreSharedOut code.now input.now budgets run.old.control run.old.layout order.now }
-    ensures goes { IfOk result (λ all. all ≡ true → GoesInOrder code.now input.now budgets run.new order.now) }
-    ensures ended { IfOk result (λ all. all ≡ true → run.new.control.has_ended ≡ true) }
-    ensures told { IfOk result (λ all. all ≡ true → created_so_far run.new.control ≡ (whole run.new.control).activations) }
-    ensures stays { IfOk result (λ all. all ≡ false → HaveRunInOrder code.now input.now budgets run.new order.now) }
+    requires shared { AreSharedOut code.now input.now budgets standing.old.control standing.old.layout order.now }
+    ensures goes { IfOk result (λ all. all ≡ true → GoesInOrder code.now input.now budgets standing.new order.now) }
+    ensures ended { IfOk result (λ all. all ≡ true → standing.new.control.has_ended ≡ true) }
+    ensures told { IfOk result (λ all. all ≡ true → created_so_far standing.new.control ≡ (whole standing.new.control).activations) }
+    ensures stays { IfOk result (λ all. all ≡ false → HaveRunInOrder code.now input.now budgets standing.new order.now) }
 {
-    run.first = order.ends.len() as u32;
-    run.activations = List::new(alloc);
-    if order.ends.len() >= run.layout.frames() {
+    standing.first = order.ends.len() as u32;
+    standing.activations = List::new(alloc);
+    if order.ends.len() >= standing.layout.frames() {
         return Ok(true);
     }
-    create_anew(run, alloc, code, input, budgets, order.ends.len() as u32)?;
+    create_anew(standing, alloc, code, input, budgets, order.ends.len() as u32)?;
     Ok(false)
 }
 
 /// Has the control program create the first `count` activations anew, and lays out these alone. They have run, so that none of them stays in the list.
 fn create_anew<'c>(
-    run: &mut Standing<'c>,
+    standing: &mut Standing<'c>,
     alloc: Global,
     code: &'c Code,
     input: &[u8],
@@ -145,34 +145,34 @@ fn create_anew<'c>(
     requires input { length input.now ≤ input_limit }
     requires budgets { AreBudgets budgets }
     requires within { count ≤ length (created (parts_of code.now) input.now budgets) }
-    ensures laid { OnOk result (AreLaidOut code.now input.now budgets run.new.control run.new.layout) }
-    ensures count { OnOk result (length (created_so_far run.new.control) ≡ count) }
-    ensures first { OnOk result (run.new.first ≡ count) }
-    ensures none { OnOk result (run.new.activations ≡ []) }
+    ensures laid { OnOk result (AreLaidOut code.now input.now budgets standing.new.control standing.new.layout) }
+    ensures count { OnOk result (length (created_so_far standing.new.control) ≡ count) }
+    ensures first { OnOk result (standing.new.first ≡ count) }
+    ensures none { OnOk result (standing.new.activations ≡ []) }
 {
     let control = ControlRun::new(alloc, code, input.len() as u32, budgets.control)?;
     let layout = Layout::new(alloc, code.streams, input.len() as u32)?;
-    run.control = control;
-    run.layout = layout;
-    lay_out_first(run, alloc, count)?;
-    run.first = count;
-    run.activations = List::new(alloc);
+    standing.control = control;
+    standing.layout = layout;
+    lay_out_first(standing, alloc, count)?;
+    standing.first = count;
+    standing.activations = List::new(alloc);
     Ok(())
 }
 
 /// Has a control program that has created nothing yet create `count` activations, stretch by stretch, and lays them out.
-fn lay_out_first(run: &mut Standing<'_>, alloc: Global, count: u32) -> Result<(), Memory>
-    requires laid { IsLaidOut run.old.control run.old.layout }
-    requires none { length (created_so_far run.old.control) ≡ 0 }
-    requires within { count ≤ length (whole run.old.control).activations }
-    ensures laid { OnOk result ((code : Code) (input : List ℕ) (budgets : Budgets) → AreLaidOut code input budgets run.old.control run.old.layout
-        → AreLaidOut code input budgets run.new.control run.new.layout) }
-    ensures count { OnOk result (length (created_so_far run.new.control) ≡ count) }
+fn lay_out_first(standing: &mut Standing<'_>, alloc: Global, count: u32) -> Result<(), Memory>
+    requires laid { IsLaidOut standing.old.control standing.old.layout }
+    requires none { length (created_so_far standing.old.control) ≡ 0 }
+    requires within { count ≤ length (whole standing.old.control).activations }
+    ensures laid { OnOk result ((code : Code) (input : List ℕ) (budgets : Budgets) → AreLaidOut code input budgets standing.old.control standing.old.layout
+        → AreLaidOut code input budgets standing.new.control standing.new.layout) }
+    ensures count { OnOk result (length (created_so_far standing.new.control) ≡ count) }
 {
     let mut left = count;
     'stretches: while left > 0 {
         let next = stretch_of(left);
-        create_stretch(run, alloc, next)?;
+        create_stretch(standing, alloc, next)?;
         left -= next;
     }
     Ok(())

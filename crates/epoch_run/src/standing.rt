@@ -63,7 +63,7 @@ impl<'c> Standing<'c> {
     ) -> Result<Standing<'c>, Memory>
         requires input { length input.now ≤ input_limit }
         requires budgets { AreBudgets budgets }
-        ensures { IfOk result (λ run. StandsAt code.now input.now budgets run) }
+        ensures { IfOk result (λ standing. StandsAt code.now input.now budgets standing) }
     {
         run_in_epochs();
         let control = ControlRun::new(alloc, code, input.len() as u32, budgets.control)?;

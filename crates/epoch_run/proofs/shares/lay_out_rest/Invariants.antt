@@ -8,9 +8,9 @@ use Rattle.epoch_run.proofs.shares.lay_out_rest.Given as goal
 
 abbrev pub invariant-stretches : goal.invariant-stretches
 invariant-stretches l = record {
-  laid : IsLaidOut l.run.control l.run.layout;
-  keeps : (code : Code) (input : List ℕ) (budgets : Budgets) → AreLaidOut code input budgets l.fn.run.control l.fn.run.layout → AreLaidOut code input budgets l.run.control l.run.layout;
+  laid : IsLaidOut l.standing.control l.standing.layout;
+  keeps : (code : Code) (input : List ℕ) (budgets : Budgets) → AreLaidOut code input budgets l.fn.standing.control l.fn.standing.layout → AreLaidOut code input budgets l.standing.control l.standing.layout;
 }
 
 abbrev pub decreases-stretches : goal.decreases-stretches
-decreases-stretches l = 65536 - length (created_so_far l.run.control)
+decreases-stretches l = 65536 - length (created_so_far l.standing.control)

@@ -8,9 +8,9 @@ pub returns : goal.returns
 returns c =
     let e = c.in_ok-lay_out_rest.ensures in
     record {
-      shared = shared_out c.args.code.now c.args.input.now c.args.budgets c.lay_out_rest.new.run.control c.lay_out_rest.new.run.layout c.join_one.new.order
+      shared = shared_out c.args.code.now c.args.input.now c.args.budgets c.lay_out_rest.new.standing.control c.lay_out_rest.new.standing.layout c.join_one.new.order
           (e.laid c.args.code.now c.args.input.now c.args.budgets c.requires.ran.goes.laid_out) e.ended e.told
           (c.in_ok-join_one.ensures.ran c.args.code.now c.args.input.now c.args.budgets c.in_ok-apart.ensures.ready c.in_ok-apart.ensures.share
-          (first_ones_ran c.args.code.now c.args.input.now c.args.budgets c.args.run.now c.args.order.now c.requires.ran));
+          (first_ones_ran c.args.code.now c.args.input.now c.args.budgets c.args.standing.now c.args.order.now c.requires.ran));
       no_fewer = c.in_ok-join_one.ensures.no_fewer;
     }

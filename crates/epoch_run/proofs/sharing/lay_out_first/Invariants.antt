@@ -8,10 +8,10 @@ use Rattle.epoch_run.proofs.sharing.lay_out_first.Given as goal
 
 abbrev pub invariant-stretches : goal.invariant-stretches
 invariant-stretches l = record {
-  laid : IsLaidOut l.run.control l.run.layout;
-  keeps : (code : Code) (input : List ℕ) (budgets : Budgets) → AreLaidOut code input budgets l.fn.run.control l.fn.run.layout → AreLaidOut code input budgets l.run.control l.run.layout;
-  counted : length (created_so_far l.run.control) + l.left ≡ l.count;
-  within : l.count ≤ length (whole l.run.control).activations;
+  laid : IsLaidOut l.standing.control l.standing.layout;
+  keeps : (code : Code) (input : List ℕ) (budgets : Budgets) → AreLaidOut code input budgets l.fn.standing.control l.fn.standing.layout → AreLaidOut code input budgets l.standing.control l.standing.layout;
+  counted : length (created_so_far l.standing.control) + l.left ≡ l.count;
+  within : l.count ≤ length (whole l.standing.control).activations;
 }
 
 abbrev pub decreases-stretches : goal.decreases-stretches

@@ -3,7 +3,7 @@ use Rattle.epoch_run.proofs.SharedOut.{tried_at}
 use Rattle.epoch_run.proofs.sharing.share_out.Goals as goal
 
 pub run_shares-requires-clause-ran : goal.run_shares-requires-clause-ran
-run_shares-requires-clause-ran g c κs within = tried_at c.args.code.now c.args.input.now c.args.budgets c.args.run.now c.args.order.now c.requires.ran _
+run_shares-requires-clause-ran g c κs within = tried_at c.args.code.now c.args.input.now c.args.budgets c.args.standing.now c.args.order.now c.requires.ran _
 
 pub returns-clause-no_fewer : goal.returns-clause-no_fewer
 returns-clause-no_fewer g c = λ rest.

@@ -7,9 +7,9 @@ use Rattle.epoch_run.proofs.sharing.take_up.Goals as goal
 pub returns-then-len-frames-clause-goes : goal.returns-then-len-frames-clause-goes
 returns-then-len-frames-clause-goes c = λ _.
     let shared = c.requires.shared in
-    let frames = frame_count-is c.args.run.now.layout (created_so_far c.args.run.now.control) shared.laid_out.laid in
-    taken_up c.args.code.now c.args.input.now c.args.budgets c.args.run.now _ c.args.order.now shared shared.laid_out shared.all c.len.ensures
-    (c.new.ensures ∙ none_left c.args.code.now c.args.input.now c.args.budgets c.args.run.now c.args.order.now shared (omega (arith, c.if-len-frames.true, c.frames.ensures, c.len-2.ensures, frames)))
+    let frames = frame_count-is c.args.standing.now.layout (created_so_far c.args.standing.now.control) shared.laid_out.laid in
+    taken_up c.args.code.now c.args.input.now c.args.budgets c.args.standing.now _ c.args.order.now shared shared.laid_out shared.all c.len.ensures
+    (c.new.ensures ∙ none_left c.args.code.now c.args.input.now c.args.budgets c.args.standing.now c.args.order.now shared (omega (arith, c.if-len-frames.true, c.frames.ensures, c.len-2.ensures, frames)))
 
 pub create_anew-requires-clause-within : goal.create_anew-requires-clause-within
 create_anew-requires-clause-within c = let w = c.requires.shared.ran.within in omega (arith, w, c.len-3.ensures)
@@ -17,5 +17,5 @@ create_anew-requires-clause-within c = let w = c.requires.shared.ran.within in o
 pub returns-clause-stays : goal.returns-clause-stays
 returns-clause-stays c = λ _.
     let e = c.in_ok-create_anew.ensures in
-    created_anew c.args.code.now c.args.input.now c.args.budgets c.create_anew.new.run c.args.order.now c.requires.shared.ran e.laid
+    created_anew c.args.code.now c.args.input.now c.args.budgets c.create_anew.new.standing c.args.order.now c.requires.shared.ran e.laid
     (e.count ∙ c.len-3.ensures) (e.first ∙ c.len-3.ensures) e.none
