@@ -21,12 +21,12 @@ ghost use Rattle.epoch_run.specs.Standing.{HasCreated, StandsAt};
 ghost use Rattle.epoch_run.specs.declared.result.Budgets.{Budgets};
 
 use crate::beside::create;
+use crate::portioning::portion_out;
 use crate::result::Budgets;
-use crate::sharing::share_out;
 use crate::standing::Standing;
 use epoch_run_bodies::laws::later_activations_change_nothing;
 use epoch_run_in_order::{HeldInOrder, InOrder};
-use epoch_run_shares::STRETCH;
+use epoch_run_portions::STRETCH;
 use flow_core_laws::{ACTIVATIONS_LIMIT, ControlEnd, Ends};
 use os_code::Code;
 use os_io::{List, Memory};
@@ -35,7 +35,7 @@ use std::mem;
 use std::thread::Threads;
 use task_workers::Gate;
 
-/// How many activations run before the others are shared out among several workers.
+/// How many activations run before the others are portioned out among several workers.
 const ALONE: usize = 1_024;
 
 /// More activations than a run ever has.
@@ -91,12 +91,18 @@ fn begin(standing: &mut Standing<'_>, alloc: Global, code: &Code) -> Result<InOr
         output: List::new(alloc),
     };
     let ends = mem::replace(&mut standing.held.ends, nothing);
-    let order = InOrder::behind(alloc, code, &standing.layout, ends, standing.held.kept.as_slice())?;
+    let order = InOrder::behind(
+        alloc,
+        code,
+        &standing.layout,
+        ends,
+        standing.held.kept.as_slice(),
+    )?;
     Ok(order)
 }
 
-/// Runs stretch by stretch, as far as that goes. By several workers what comes behind the first stretches is shared out among them, where that
-/// serves, and what the shares leave goes on stretch by stretch.
+/// Runs stretch by stretch, as far as that goes. By several workers what comes behind the first stretches is portioned out among them, where that
+/// serves, and what the portions leave goes on stretch by stretch.
 fn run_on<'c, R: Threads + Sync, G: Gate>(
     rt: &R,
     standing: &mut Standing<'c>,
@@ -112,11 +118,14 @@ fn run_on<'c, R: Threads + Sync, G: Gate>(
     requires budgets { AreBudgets budgets }
     requires ran { HaveRunInOrder code.now input.now budgets standing.old order.old }
     ensures goes { OnOk result (GoesInOrder code.now input.now budgets standing.new order.new) }
-    ensures grows { OnOk result (standing.new.control.has_ended ≡ false → length (created_so_far standing.old.control) < length (created_so_far standing.new.control)) }
+    ensures grows { OnOk result (standing.new.control.has_ended ≡ false
+        → length (created_so_far standing.old.control) < length (created_so_far standing.new.control)) }
     ensures told { OnOk result (standing.new.control.has_ended ≡ true → created_so_far standing.new.control ≡ (whole standing.new.control).activations) }
 {
     if workers == 1 {
-        run_stretches(standing, order, alloc, code, input, budgets, workers, gate, MOST)?;
+        run_stretches(
+            standing, order, alloc, code, input, budgets, workers, gate, MOST,
+        )?;
         return Ok(());
     }
     let more = run_stretches(
@@ -125,9 +134,11 @@ fn run_on<'c, R: Threads + Sync, G: Gate>(
     if !more {
         return Ok(());
     }
-    let all = share_out(rt, standing, order, alloc, code, input, budgets, workers)?;
+    let all = portion_out(rt, standing, order, alloc, code, input, budgets, workers)?;
     if !all {
-        run_stretches(standing, order, alloc, code, input, budgets, workers, gate, MOST)?;
+        run_stretches(
+            standing, order, alloc, code, input, budgets, workers, gate, MOST,
+        )?;
     }
     Ok(())
 }
@@ -148,7 +159,8 @@ fn run_stretches<G: Gate>(
     requires budgets { AreBudgets budgets }
     requires ran { HaveRunInOrder code.now input.now budgets standing.old order.old }
     ensures goes { OnOk result (GoesInOrder code.now input.now budgets standing.new order.new) }
-    ensures grows { OnOk result (standing.new.control.has_ended ≡ false → length (created_so_far standing.old.control) < length (created_so_far standing.new.control)) }
+    ensures grows { OnOk result (standing.new.control.has_ended ≡ false
+        → length (created_so_far standing.old.control) < length (created_so_far standing.new.control)) }
     ensures told { OnOk result (standing.new.control.has_ended ≡ true → created_so_far standing.new.control ≡ (whole standing.new.control).activations) }
     ensures all { IfOk result (λ more. IsTrue more → HaveRunInOrder code.now input.now budgets standing.new order.new) }
 {
@@ -182,7 +194,8 @@ fn run_stretch<G: Gate>(
     requires budgets { AreBudgets budgets }
     requires ran { HaveRunInOrder code.now input.now budgets standing.old order.old }
     ensures goes { OnOk result (GoesInOrder code.now input.now budgets standing.new order.new) }
-    ensures grows { OnOk result (standing.new.control.has_ended ≡ false → length (created_so_far standing.old.control) < length (created_so_far standing.new.control)) }
+    ensures grows { OnOk result (standing.new.control.has_ended ≡ false
+        → length (created_so_far standing.old.control) < length (created_so_far standing.new.control)) }
     ensures told { OnOk result (standing.new.control.has_ended ≡ true → created_so_far standing.new.control ≡ (whole standing.new.control).activations) }
     ensures all { IfOk result (λ more. IsTrue more → HaveRunInOrder code.now input.now budgets standing.new order.new) }
     ensures more { IfOk result (λ more. IsTrue more → standing.new.control.has_ended ≡ false) }
@@ -208,7 +221,8 @@ pub(crate) fn create_stretch(
     requires takes { (after : RunSoFar) (added : List Activation) → HasCreated count standing.old.control after [] added → TakesMore standing.old.layout added }
     ensures created { OnOk result (HasCreated count standing.old.control standing.new.control [] standing.new.activations) }
     ensures first { OnOk result (standing.new.first ≡ frame_count standing.old.layout) }
-    ensures laid { OnOk result ((before : List Activation) → IsLayoutOf standing.old.layout before → IsLayoutOf standing.new.layout (before ++ standing.new.activations)) }
+    ensures laid { OnOk result ((before : List Activation) → IsLayoutOf standing.old.layout before
+        → IsLayoutOf standing.new.layout (before ++ standing.new.activations)) }
     ensures streams { OnOk result (length standing.new.layout.writers ≡ length standing.old.layout.writers) }
     ensures input { OnOk result (standing.new.layout.input_len ≡ standing.old.layout.input_len) }
 {
