@@ -80,46 +80,46 @@ module _ (code : Code) (input : List ℕ) (budgets : Budgets) where
       }
 
   -- where each activation has an end, all are given up
-  pub gave_up : (run : Standing) (given : List Activation) → HasRun code input budgets given run → length run.held.without_end ≡ 0 → (control : RunSoFar) (empty : List Activation) → empty ≡ []
-      → (first : ℕ) → first ≡ length run.held.ends.ends → HasRun code input budgets given (record run { control = control; activations = empty; first = first })
-  gave_up run given is none control empty is_empty first all = record {
+  pub gave_up : (standing : Standing) (given : List Activation) → HasRun code input budgets given standing → length standing.held.without_end ≡ 0 → (control : RunSoFar) (empty : List Activation) → empty ≡ []
+      → (first : ℕ) → first ≡ length standing.held.ends.ends → HasRun code input budgets given (record standing { control = control; activations = empty; first = first })
+  gave_up standing given is none control empty is_empty first all = record {
     are_last = is_empty ∙ sym (drop_all first given (omega (arith, as_many)));
-    have_ended = λ a lt. all_ended run.held.ends.ends run.held.without_end is.held.are_open none a (omega arith);
+    have_ended = λ a lt. all_ended standing.held.ends.ends standing.held.without_end is.held.are_open none a (omega arith);
     within = omega (arith, as_many);
     held = is.held;
   }
     where
-      as_many : length run.held.ends.ends ≡ length given
+      as_many : length standing.held.ends.ends ≡ length given
       as_many = ap length is.held.is_meant.ends_are_meant ∙ length-ends given input (frame_outcome (parts_of code) given budgets.task)
 
-  module _ (run : Standing) (small : AreBudgets budgets) (stands : StandsAt code input budgets run) where
+  module _ (standing : Standing) (small : AreBudgets budgets) (stands : StandsAt code input budgets standing) where
     abbrev all : List Activation
-    all = created_so_far run.control
+    all = created_so_far standing.control
 
-    lawful : AreLawful (length run.layout.writers) all
+    lawful : AreLawful (length standing.layout.writers) all
     lawful = subst (λ n. AreLawful n all) (sym stands.streams) stands.lawful
 
-    pub whole_layout : IsLayout run.layout
+    pub whole_layout : IsLayout standing.layout
     whole_layout = record { has_output = omega (arith, stands.streams, stands.has_output); activations = all; is_of = stands.laid; lawful = lawful }
 
-    whole_now : whole run.control ≡ main_control (parts_of code) (length input) budgets.control
+    whole_now : whole standing.control ≡ main_control (parts_of code) (length input) budgets.control
     whole_now =
-        ap (λ p. main_control p run.control.input_len run.control.budget) stands.code_is
-        ∙ ap (λ n. main_control (parts_of code) n run.control.budget) stands.input_is
+        ap (λ p. main_control p standing.control.input_len standing.control.budget) stands.code_is
+        ∙ ap (λ n. main_control (parts_of code) n standing.control.budget) stands.input_is
         ∙ ap (main_control (parts_of code) (length input)) stands.budget_is
 
     -- as many of those that are created as the layout has
-    pub first_created : (count input_len : ℕ) → count ≡ frame_count run.layout → input_len ≡ length input
+    pub first_created : (count input_len : ℕ) → count ≡ frame_count standing.layout → input_len ≡ length input
         → take count (main_control (parts_of code) input_len budgets.control).activations ≡ all
     first_created count input_len as_many long =
         ap (λ n. take count (main_control (parts_of code) n budgets.control).activations) long
         ∙ ap (λ (c : Control). take count c.activations) (sym whole_now)
-        ∙ ap (λ n. take n (whole run.control).activations) (as_many ∙ frame_count-is run.layout all stands.laid ∙ length-take run.control.created_by_now (whole run.control).activations)
-        ∙ take_min run.control.created_by_now (whole run.control).activations
+        ∙ ap (λ n. take n (whole standing.control).activations) (as_many ∙ frame_count-is standing.layout all stands.laid ∙ length-take standing.control.created_by_now (whole standing.control).activations)
+        ∙ take_min standing.control.created_by_now (whole standing.control).activations
 
     -- the next epoch is open
-    pub opens : (slice : List Activation) → slice ≡ all → IsOpenEpoch code slice budgets.task run.layout input run.held
-    opens slice is = subst (λ (xs : List Activation). IsOpenEpoch code xs budgets.task run.layout input run.held) (sym is) (record {
+    pub opens : (slice : List Activation) → slice ≡ all → IsOpenEpoch code slice budgets.task standing.layout input standing.held
+    opens slice is = subst (λ (xs : List Activation). IsOpenEpoch code xs budgets.task standing.layout input standing.held) (sym is) (record {
       small = small.task_turns;
       fit = stands.fit;
       lawful = lawful;
@@ -138,30 +138,30 @@ module _ (code : Code) (input : List ℕ) (budgets : Budgets) where
         ∙ ap (λ os. record { ends = (code_ends (parts_of code) all input budgets.task).ends; output = os }) m.is_meant.output_is_meant
 
     -- what has ended stays so, and each has an end or none
-    pub stays_so : LaterActivationsChangeNothing → (after : Held) → IsHeldOf (parts_of code) all input budgets.task after → (a : ℕ) → a < run.first → has_end_at after.ends.ends a ≡ true
-    stays_so later after meant a lt = stays_ended (parts_of code) all input budgets.task run.held after later stands.held meant a (stands.have_ended a lt)
+    pub stays_so : LaterActivationsChangeNothing → (after : Held) → IsHeldOf (parts_of code) all input budgets.task after → (a : ℕ) → a < standing.first → has_end_at after.ends.ends a ≡ true
+    stays_so later after meant a lt = stays_ended (parts_of code) all input budgets.task standing.held after later stands.held meant a (stands.have_ended a lt)
 
     -- so the run stands behind an epoch
     pub has_run : LaterActivationsChangeNothing → (after : RunSoFar) (held : Held) → IsHeldOf (parts_of code) all input budgets.task held
-        → HasRun code input budgets all (record run { control = after; held = held })
+        → HasRun code input budgets all (record standing { control = after; held = held })
     has_run later after held meant = record { are_last = stands.are_last; have_ended = stays_so later held meant; within = stands.within; held = meant }
 
     pub as_many_ends : (after : Held) → IsHeldOf (parts_of code) all input budgets.task after → length after.ends.ends ≡ length all
     as_many_ends after meant = ap length meant.is_meant.ends_are_meant ∙ length-ends all input (frame_outcome (parts_of code) all budgets.task)
 
     -- where the list begins with the first one, it has all
-    pub are_all : run.first ≡ 0 → run.activations ≡ all
+    pub are_all : standing.first ≡ 0 → standing.activations ≡ all
     are_all first = stands.are_last ∙ ap (λ n. drop n all) first
 
-    module _ (at_most : ℕ) (after : RunSoFar) (empty next : List Activation) (is_empty : empty ≡ []) (advance : HasAdvanced at_most run.control after empty next) where
+    module _ (at_most : ℕ) (after : RunSoFar) (empty next : List Activation) (is_empty : empty ≡ []) (advance : HasAdvanced at_most standing.control after empty next) where
       abbrev count : ℕ
       count = advance.count
 
-      made : HasCreated count run.control after empty next
+      made : HasCreated count standing.control after empty next
       made = advance.created
 
-      next_is : next ≡ take count (remaining run.control)
-      next_is = made.is_list ∙ ap (λ xs. xs ++ take count (remaining run.control)) is_empty
+      next_is : next ≡ take count (remaining standing.control)
+      next_is = made.is_list ∙ ap (λ xs. xs ++ take count (remaining standing.control)) is_empty
 
       given : all ++ next ≡ created_so_far after
       given = ap (λ xs. all ++ xs) next_is ∙ sym made.joined
@@ -172,7 +172,7 @@ module _ (code : Code) (input : List ℕ) (budgets : Budgets) where
       all_lawful : AreLawful code.streams (all ++ next)
       all_lawful = subst (AreLawful code.streams) (sym given) (subst (λ (p : Parts). AreLawful p.streams (created_so_far after)) after_code made.lawful)
 
-      pub takes_more : TakesMore run.layout next
+      pub takes_more : TakesMore standing.layout next
       takes_more = record { before = all; is_of = stands.laid; lawful = subst (λ n. AreLawful n (all ++ next)) (sym stands.streams) all_lawful }
 
       whole_is : whole after ≡ main_control (parts_of code) (length input) budgets.control
@@ -180,7 +180,7 @@ module _ (code : Code) (input : List ℕ) (budgets : Budgets) where
 
       -- the run after the epoch
       pub stands_next : (ran : Standing) → HasRun code input budgets all ran → (activations : List Activation) (layout : Layout) → activations ≡ ran.activations ++ next
-          → IsLayoutOf layout (all ++ next) → length layout.writers ≡ length run.layout.writers → layout.input_len ≡ run.layout.input_len
+          → IsLayoutOf layout (all ++ next) → length layout.writers ≡ length standing.layout.writers → layout.input_len ≡ standing.layout.input_len
           → StandsAt code input budgets (record ran { control = after; activations = activations; layout = layout })
       stands_next ran is activations layout are laid streams over = record {
         code_is = after_code;
@@ -198,28 +198,28 @@ module _ (code : Code) (input : List ℕ) (budgets : Budgets) where
         held = record { before = all; new = next; are_all = sym given; meant = is.held };
       }
 
-      has_ended : after.has_ended ≡ nat_lt (length (remaining run.control)) count
+      has_ended : after.has_ended ≡ nat_lt (length (remaining standing.control)) count
       has_ended = ap (λ (r : RunSoFar). r.has_ended) made.is_run
 
       -- where the run hasn't ended, there are more activations
       pub grows : (end : Option ControlEnd) → end ≡ end_told after → end ≡ None → length all < length (created_so_far after)
-      grows end told none = by (cases_lt (length (remaining run.control)) count)
+      grows end told none = by (cases_lt (length (remaining standing.control)) count)
         where
-          by : (length (remaining run.control) < count) ⊎ (count ≤ length (remaining run.control)) → length all < length (created_so_far after)
+          by : (length (remaining standing.control) < count) ⊎ (count ≤ length (remaining standing.control)) → length all < length (created_so_far after)
           by (inl lt) =
-              let e : Some (whole after).end ≡ None = sym (ap (λ b. cond b (Some (whole after).end) None) (has_ended ∙ lt-ltb (length (remaining run.control)) count lt)) ∙ sym told ∙ none in
+              let e : Some (whole after).end ≡ None = sym (ap (λ b. cond b (Some (whole after).end) None) (has_ended ∙ lt-ltb (length (remaining standing.control)) count lt)) ∙ sym told ∙ none in
               absurd (cc)
           by (inr ge) =
               let l = sym (ap length given) ∙ length-append all next in
-              let n = ap length next_is ∙ length-take count (remaining run.control) in
+              let n = ap length next_is ∙ length-take count (remaining standing.control) in
               let s = advance.some in
               omega (arith, l, n, s)
 
       -- where it has, these are all
-      ended_so : (e : ControlEnd) → Some e ≡ end_told after → (nat_lt (length (remaining run.control)) count ≡ true) × (e ≡ (whole after).end)
+      ended_so : (e : ControlEnd) → Some e ≡ end_told after → (nat_lt (length (remaining standing.control)) count ≡ true) × (e ≡ (whole after).end)
       ended_so e told = by (after.has_ended) refl
         where
-          by : (b : Bool) → after.has_ended ≡ b → (nat_lt (length (remaining run.control)) count ≡ true) × (e ≡ (whole after).end)
+          by : (b : Bool) → after.has_ended ≡ b → (nat_lt (length (remaining standing.control)) count ≡ true) × (e ≡ (whole after).end)
           by true is = (sym has_ended ∙ is, let s : Some e ≡ Some (whole after).end = told ∙ ap (λ b. cond b (Some (whole after).end) None) is in cc)
           by false is = let z : Some e ≡ None = told ∙ ap (λ b. cond b (Some (whole after).end) None) is in absurd (cc)
 

@@ -91,8 +91,8 @@ module _ (code : Code) (input : List ℕ) (budgets : Budgets) where
       later (parts_of code) before more input budgets.task
       ∙ ap (λ (xs : List Activation). stream_meaning before input (body xs)) is
 
-  pub laid_out : (run : Standing) → StandsAt code input budgets run → AreLaidOut code input budgets run.control run.layout
-  laid_out run stands = record {
+  pub laid_out : (standing : Standing) → StandsAt code input budgets standing → AreLaidOut code input budgets standing.control standing.layout
+  laid_out standing stands = record {
     code_is = stands.code_is;
     input_is = stands.input_is;
     budget_is = stands.budget_is;
@@ -180,15 +180,15 @@ module _ (code : Code) (input : List ℕ) (budgets : Budgets) where
       next_are_last = sym (ap (drop (length given)) (sym joins) ∙ drop_at given next (length given) refl)
 
   -- a run in control order begins behind activations that all have ended
-  pub begins_in_order : LaterActivationsChangeNothing → (run : Standing) → StandsAt code input budgets run → IsHeldOf (parts_of code) (created_so_far run.control) input budgets.task run.held
-      → length run.held.without_end ≡ 0 → (order : InOrder) → IsReady code order → length order.ends ≡ length run.held.ends.ends
-      → ((every before : List Activation) (bytes : List ℕ) (budget : ℕ) → IsLayoutOf run.layout before
-      → IsHeld before bytes (frame_outcome (parts_of code) every budget) run.held.ends.ends (map kept_of run.held.kept.items) run.held.ends.output
+  pub begins_in_order : LaterActivationsChangeNothing → (standing : Standing) → StandsAt code input budgets standing → IsHeldOf (parts_of code) (created_so_far standing.control) input budgets.task standing.held
+      → length standing.held.without_end ≡ 0 → (order : InOrder) → IsReady code order → length order.ends ≡ length standing.held.ends.ends
+      → ((every before : List Activation) (bytes : List ℕ) (budget : ℕ) → IsLayoutOf standing.layout before
+      → IsHeld before bytes (frame_outcome (parts_of code) every budget) standing.held.ends.ends (map kept_of standing.held.kept.items) standing.held.ends.output
       → HaveAllEnded (meaning_in (parts_of code) every before bytes budget) → StandsBehind (parts_of code) every before bytes budget order)
-      → (held : Held) → HaveRunInOrder code input budgets (record run { held = held }) order
-  begins_in_order later run stands meant none order ready count behind held = record {
+      → (held : Held) → HaveRunInOrder code input budgets (record standing { held = held }) order
+  begins_in_order later standing stands meant none order ready count behind held = record {
     goes = record {
-      laid_out = laid_out run stands;
+      laid_out = laid_out standing stands;
       are_last = stands.are_last;
       have_run = let w = stands.within in omega (arith, as_many, w);
       within = omega (arith, as_many);
@@ -199,9 +199,9 @@ module _ (code : Code) (input : List ℕ) (budgets : Budgets) where
   }
     where
       given_so : List Activation
-      given_so = created_so_far run.control
+      given_so = created_so_far standing.control
 
-      ends_many : length run.held.ends.ends ≡ length given_so
+      ends_many : length standing.held.ends.ends ≡ length given_so
       ends_many = ap length meant.is_meant.ends_are_meant ∙ length-ends given_so input (body given_so)
 
       as_many : length order.ends ≡ length given_so
@@ -212,51 +212,51 @@ module _ (code : Code) (input : List ℕ) (budgets : Budgets) where
 
       same : stream_meaning given_so input (body given_so) ≡ stream_meaning given_so input (body all)
       same = subst (λ (xs : List Activation). stream_meaning xs input (body xs) ≡ stream_meaning xs input (body all)) all_taken
-          (same_meaning run.control run.layout (laid_out run stands) later (length order.ends))
+          (same_meaning standing.control standing.layout (laid_out standing stands) later (length order.ends))
 
       have_ended : HaveAllEnded (stream_meaning given_so input (body given_so))
       have_ended = all_some (stream_meaning given_so input (body given_so))
           (λ a lt. subst (λ (es : List (Option TaskEnd)). has_end_at es a ≡ true) meant.is_meant.ends_are_meant
-          (all_ended run.held.ends.ends run.held.without_end meant.are_open none a (let e = ap length meant.is_meant.ends_are_meant in omega (arith, e, lt))))
+          (all_ended standing.held.ends.ends standing.held.without_end meant.are_open none a (let e = ap length meant.is_meant.ends_are_meant in omega (arith, e, lt))))
 
       stands_behind : StandsBehind (parts_of code) all given_so input budgets.task order
       stands_behind = behind all given_so input budgets.task stands.laid
-          (same_held given_so input (body given_so) (body all) run.held.ends.ends (map kept_of run.held.kept.items) run.held.ends.output same meant.is_meant)
+          (same_held given_so input (body given_so) (body all) standing.held.ends.ends (map kept_of standing.held.kept.items) standing.held.ends.output same meant.is_meant)
           (subst HaveAllEnded same have_ended)
 
   -- the next stretch is behind those that ran
-  pub next_stretch : (run : Standing) (order : InOrder) → HaveRunInOrder code input budgets run order → (count : ℕ) (after : Standing)
-      → HasCreated count run.control after.control [] after.activations → after.first ≡ frame_count run.layout
-      → IsLayoutOf after.layout (created_so_far run.control ++ after.activations) → length after.layout.writers ≡ length run.layout.writers → after.layout.input_len ≡ run.layout.input_len
+  pub next_stretch : (standing : Standing) (order : InOrder) → HaveRunInOrder code input budgets standing order → (count : ℕ) (after : Standing)
+      → HasCreated count standing.control after.control [] after.activations → after.first ≡ frame_count standing.layout
+      → IsLayoutOf after.layout (created_so_far standing.control ++ after.activations) → length after.layout.writers ≡ length standing.layout.writers → after.layout.input_len ≡ standing.layout.input_len
       → GoesInOrder code input budgets after order × (after.first ≡ length order.ends)
-  next_stretch run order ran count after made first is streams over = (
+  next_stretch standing order ran count after made first is streams over = (
     record {
-      laid_out = next_laid_out run.control run.layout ran.goes.laid_out count after.control after.activations made after.layout is streams over;
-      are_last = next_are_last run.control run.layout ran.goes.laid_out count after.control after.activations made ∙ ap (λ n. drop n (created_so_far after.control)) (sym starts);
+      laid_out = next_laid_out standing.control standing.layout ran.goes.laid_out count after.control after.activations made after.layout is streams over;
+      are_last = next_are_last standing.control standing.layout ran.goes.laid_out count after.control after.activations made ∙ ap (λ n. drop n (created_so_far after.control)) (sym starts);
       have_run = omega (arith, behind_all);
-      within = let m = ap length made.joined ∙ length-append (created_so_far run.control) (take count (remaining run.control)) in let a = ran.all in omega (arith, m, a);
+      within = let m = ap length made.joined ∙ length-append (created_so_far standing.control) (take count (remaining standing.control)) in let a = ran.all in omega (arith, m, a);
       ready = ran.goes.ready;
       behind = subst (λ (xs : List Activation). StandsBehind (parts_of code) all xs input budgets.task order) same_taken ran.goes.behind;
     },
     behind_all,
   )
     where
-      starts : after.first ≡ length (created_so_far run.control)
-      starts = first ∙ frame_count-is run.layout (created_so_far run.control) ran.goes.laid_out.laid
+      starts : after.first ≡ length (created_so_far standing.control)
+      starts = first ∙ frame_count-is standing.layout (created_so_far standing.control) ran.goes.laid_out.laid
 
       behind_all : after.first ≡ length order.ends
       behind_all = starts ∙ sym ran.all
 
-      same_taken : take (length order.ends) (created_so_far run.control) ≡ take (length order.ends) (created_so_far after.control)
+      same_taken : take (length order.ends) (created_so_far standing.control) ≡ take (length order.ends) (created_so_far after.control)
       same_taken =
-          take_all (length order.ends) (created_so_far run.control) (let a = ran.all in omega (arith, a))
-          ∙ sym (ap (λ n. take n (created_so_far after.control)) ran.all ∙ first_stay run.control run.layout ran.goes.laid_out count after.control after.activations made)
+          take_all (length order.ends) (created_so_far standing.control) (let a = ran.all in omega (arith, a))
+          ∙ sym (ap (λ n. take n (created_so_far after.control)) ran.all ∙ first_stay standing.control standing.layout ran.goes.laid_out count after.control after.activations made)
 
   -- the activations of a stretch are the next ones of the layout
-  pub are_next : (run : Standing) (order : InOrder) → GoesInOrder code input budgets run order → run.first ≡ length order.ends
-      → (slice : List Activation) → slice ≡ run.activations → AreLast code run.layout (length order.ends) slice
-  are_next run order goes first slice is = record {
-    whole = is_whole run.control run.layout goes.laid_out;
+  pub are_next : (standing : Standing) (order : InOrder) → GoesInOrder code input budgets standing order → standing.first ≡ length order.ends
+      → (slice : List Activation) → slice ≡ standing.activations → AreLast code standing.layout (length order.ends) slice
+  are_next standing order goes first slice is = record {
+    whole = is_whole standing.control standing.layout goes.laid_out;
     streams = goes.laid_out.streams;
     in_layout = given_so;
     is_of = goes.laid_out.laid;
@@ -268,19 +268,19 @@ module _ (code : Code) (input : List ℕ) (budgets : Budgets) where
   }
     where
       given_so : List Activation
-      given_so = created_so_far run.control
+      given_so = created_so_far standing.control
 
       next_is : slice ≡ drop (length order.ends) given_so
       next_is = is ∙ goes.are_last ∙ ap (λ n. drop n given_so) first
 
   -- some of them ran
-  module _ (run : Standing) (order after : InOrder) (goes : GoesInOrder code input budgets run order) (first : run.first ≡ length order.ends)
-      (slice : List Activation) (is : slice ≡ run.activations) (count : ℕ) (ready : IsReady code after) (few : count ≤ length slice) (count_is : length after.ends ≡ length order.ends + count)
-      (behind : (every given : List Activation) → IsLayoutOf run.layout given → given ≡ take (length given) every → drop (length order.ends) given ≡ slice
+  module _ (standing : Standing) (order after : InOrder) (goes : GoesInOrder code input budgets standing order) (first : standing.first ≡ length order.ends)
+      (slice : List Activation) (is : slice ≡ standing.activations) (count : ℕ) (ready : IsReady code after) (few : count ≤ length slice) (count_is : length after.ends ≡ length order.ends + count)
+      (behind : (every given : List Activation) → IsLayoutOf standing.layout given → given ≡ take (length given) every → drop (length order.ends) given ≡ slice
       → StandsBehind (parts_of code) every (take (length order.ends) given) input budgets.task order
       → StandsBehind (parts_of code) every (take (length order.ends + count) given) input budgets.task after) where
     abbrev given_then : List Activation
-    given_then = created_so_far run.control
+    given_then = created_so_far standing.control
 
     slice_is : slice ≡ drop (length order.ends) given_then
     slice_is = is ∙ goes.are_last ∙ ap (λ n. drop n given_then) first
@@ -288,7 +288,7 @@ module _ (code : Code) (input : List ℕ) (budgets : Budgets) where
     as_long : length slice ≡ length given_then - length order.ends
     as_long = ap length slice_is ∙ length-drop (length order.ends) given_then
 
-    pub went_on : (held : Held) → GoesInOrder code input budgets (record run { held = held }) after
+    pub went_on : (held : Held) → GoesInOrder code input budgets (record standing { held = held }) after
     went_on held = record {
       laid_out = goes.laid_out;
       are_last = goes.are_last;
@@ -296,22 +296,22 @@ module _ (code : Code) (input : List ℕ) (budgets : Budgets) where
       within = let w = goes.within in omega (arith, w, few, as_long, count_is);
       ready = ready;
       behind = subst (λ n. StandsBehind (parts_of code) all (take n given_then) input budgets.task after) (sym count_is)
-          (behind all given_then goes.laid_out.laid (are_first run.control run.layout goes.laid_out) (sym slice_is) goes.behind);
+          (behind all given_then goes.laid_out.laid (are_first standing.control standing.layout goes.laid_out) (sym slice_is) goes.behind);
     }
 
-    pub all_went : count ≡ length run.activations → (held : Held) → HaveRunInOrder code input budgets (record run { held = held }) after
+    pub all_went : count ≡ length standing.activations → (held : Held) → HaveRunInOrder code input budgets (record standing { held = held }) after
     all_went all_of_them held = record {
       goes = went_on held;
       all = let w = goes.within in let l = ap length is in omega (arith, w, l, as_long, count_is, all_of_them);
     }
 
   -- and what nobody reads any more was given up
-  pub gave_up_in_order : (run : Standing) (order after : InOrder) → HaveRunInOrder code input budgets run order → after.ends ≡ order.ends
+  pub gave_up_in_order : (standing : Standing) (order after : InOrder) → HaveRunInOrder code input budgets standing order → after.ends ≡ order.ends
       → ((c : Code) → IsReady c order → IsReady c after)
-      → ((parts : Parts) (every given : List Activation) (bytes : List ℕ) (budget : ℕ) → IsLayoutOf run.layout given → length run.layout.writers ≡ length order.streams.elements
+      → ((parts : Parts) (every given : List Activation) (bytes : List ℕ) (budget : ℕ) → IsLayoutOf standing.layout given → length standing.layout.writers ≡ length order.streams.elements
       → StandsBehind parts every given bytes budget order → StandsBehind parts every given bytes budget after)
-      → HaveRunInOrder code input budgets run after
-  gave_up_in_order run order after ran same ready behind = record {
+      → HaveRunInOrder code input budgets standing after
+  gave_up_in_order standing order after ran same ready behind = record {
     goes = record {
       laid_out = ran.goes.laid_out;
       are_last = ran.goes.are_last;
@@ -326,7 +326,7 @@ module _ (code : Code) (input : List ℕ) (budgets : Budgets) where
   }
     where
       given_so : List Activation
-      given_so = created_so_far run.control
+      given_so = created_so_far standing.control
 
       many : length after.ends ≡ length order.ends
       many = ap length same
@@ -335,12 +335,12 @@ module _ (code : Code) (input : List ℕ) (budgets : Budgets) where
       all_taken n is = take_all n given_so (omega (arith, is))
 
   -- what ran is held as after an epoch
-  pub holds : LaterActivationsChangeNothing → (run : Standing) (order : InOrder) → GoesInOrder code input budgets run order → (held : Held)
+  pub holds : LaterActivationsChangeNothing → (standing : Standing) (order : InOrder) → GoesInOrder code input budgets standing order → (held : Held)
       → held.ends.ends ≡ order.ends
       → ((parts : Parts) (every before : List Activation) (bytes : List ℕ) (budget : ℕ) → AreLawful (length order.streams.elements) before → StandsBehind parts every before bytes budget order
       → IsHeld before bytes (frame_outcome parts every budget) held.ends.ends (map kept_of held.kept.items) held.ends.output)
-      → held.without_end ≡ [] → StandsAt code input budgets (record run { held = held })
-  holds later run order goes held ends meant none = record {
+      → held.without_end ≡ [] → StandsAt code input budgets (record standing { held = held })
+  holds later standing order goes held ends meant none = record {
     code_is = goes.laid_out.code_is;
     input_is = goes.laid_out.input_is;
     budget_is = goes.laid_out.budget_is;
@@ -357,7 +357,7 @@ module _ (code : Code) (input : List ℕ) (budgets : Budgets) where
   }
     where
       given_so : List Activation
-      given_so = created_so_far run.control
+      given_so = created_so_far standing.control
 
       before : List Activation
       before = take (length order.ends) given_so
@@ -380,7 +380,7 @@ module _ (code : Code) (input : List ℕ) (budgets : Budgets) where
       is_held : IsHeldOf (parts_of code) before input budgets.task held
       is_held = record {
         is_meant = same_held before input (body all) (body before) held.ends.ends (map kept_of held.kept.items) held.ends.output
-            (sym (same_meaning run.control run.layout goes.laid_out later (length order.ends)))
+            (sym (same_meaning standing.control standing.layout goes.laid_out later (length order.ends)))
             (meant (parts_of code) all before input budgets.task lawful_before goes.behind);
         are_open = none ∙ none_open held.ends.ends (length held.ends.ends) (λ a lt. ended a (let e = ap length ends in omega (arith, e, lt)));
       }

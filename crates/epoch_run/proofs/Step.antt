@@ -254,16 +254,16 @@ module _ (layout : Layout) (whole : IsLayout layout) (code : Parts) (activations
                   absurd (cc)
               by (inr behind) = behind
 
-      module _ (ends_epoch : EndsEpoch) (run : Ends) (ends_are : run.ends ≡ ends_of (epoch_meaning plan frames (frame_outcome code activations budget)))
-          (output_is : run.output ≡ sink_elements plan (epoch_meaning plan frames (frame_outcome code activations budget))) where
-        pub ends_fit : length run.ends ≡ length frames
+      module _ (ends_epoch : EndsEpoch) (ends : Ends) (ends_are : ends.ends ≡ ends_of (epoch_meaning plan frames (frame_outcome code activations budget)))
+          (output_is : ends.output ≡ sink_elements plan (epoch_meaning plan frames (frame_outcome code activations budget))) where
+        pub ends_fit : length ends.ends ≡ length frames
         ends_fit =
             ap length ends_are
             ∙ length-map (epoch_meaning plan frames (frame_outcome code activations budget)) (option_map (λ (o : Outcome). o.end))
             ∙ length-meaning (plan_element plan) (plan_reads plan) (poisoning (λ f. frame_outcome code activations budget (slice_index frames f))) (length plan.frames)
             ∙ stands.frames_are_these
 
-        pub values_fit : length run.output ≡ length places
+        pub values_fit : length ends.output ≡ length places
         values_fit =
             ap length output_is
             ∙ length-map (plan_reads plan (length plan.frames)) (plan_element plan (epoch_meaning plan frames (frame_outcome code activations budget)))
@@ -272,43 +272,43 @@ module _ (layout : Layout) (whole : IsLayout layout) (code : Parts) (activations
             ∙ length-map places (epoch.epoch_source activations input frames kept)
 
         abbrev put : List (Option TaskEnd)
-        put = put_over held.ends.ends frames run.ends (length all)
+        put = put_over held.ends.ends frames ends.ends (length all)
 
-        pub held_after : (after : Held) → after.ends.ends ≡ put_over held.ends.ends frames run.ends (frame_count layout)
-            → after.ends.output ≡ output_over held.ends.output places run.output (slice_index layout.cursors.writes 1)
-            → map kept_of after.kept.items ≡ carried_over activations (open_in after.ends.ends (frame_count layout)) kept places run.output
+        pub held_after : (after : Held) → after.ends.ends ≡ put_over held.ends.ends frames ends.ends (frame_count layout)
+            → after.ends.output ≡ output_over held.ends.output places ends.output (slice_index layout.cursors.writes 1)
+            → map kept_of after.kept.items ≡ carried_over activations (open_in after.ends.ends (frame_count layout)) kept places ends.output
             → after.without_end ≡ open_in after.ends.ends (frame_count layout)
             → IsHeldOf code activations input budget after
         held_after after ends_put output_put carried are_open =
             subst (λ (xs : List Activation). IsHeldOf code xs input budget after) (sym is.are_all) (record { is_meant = over; are_open = are_open ∙ ap (open_in after.ends.ends) (sym as_many) })
           where
             as_many : length after.ends.ends ≡ frame_count layout
-            as_many = ap length ends_put ∙ length-map-range_with_len (λ a. option_map_or (outcome_at run.ends) (number_among frames a) (outcome_at held.ends.ends a)) 0 (frame_count layout)
+            as_many = ap length ends_put ∙ length-map-range_with_len (λ a. option_map_or (outcome_at ends.ends) (number_among frames a) (outcome_at held.ends.ends a)) 0 (frame_count layout)
 
             same_body : frame_outcome code activations budget ≡ body
             same_body = ap (λ (xs : List Activation). frame_outcome code xs budget) is.are_all
 
-            ended : IsHeld all input body put (carried_over all (open_in put (length all)) kept places run.output) (output_over held.ends.output places run.output (written_count all 1))
+            ended : IsHeld all input body put (carried_over all (open_in put (length all)) kept places ends.output) (output_over held.ends.output places ends.output (written_count all 1))
             ended =
-                ends_epoch is.before is.new input body readers frames kept plan places (opens.1 plan places all_stands) held.ends.ends held.ends.output run held_now
+                ends_epoch is.before is.new input body readers frames kept plan places (opens.1 plan places all_stands) held.ends.ends held.ends.output ends held_now
                 (ends_are ∙ ap (λ (b : ℕ → List ℤ → Outcome). ends_of (epoch_meaning plan frames b)) same_body)
                 (output_is ∙ ap (λ (b : ℕ → List ℤ → Outcome). sink_elements plan (epoch_meaning plan frames b)) same_body)
 
             e : put ≡ after.ends.ends
-            e = ap (put_over held.ends.ends frames run.ends) (sym count) ∙ sym ends_put
+            e = ap (put_over held.ends.ends frames ends.ends) (sym count) ∙ sym ends_put
 
-            k : carried_over all (open_in put (length all)) kept places run.output ≡ map kept_of after.kept.items
+            k : carried_over all (open_in put (length all)) kept places ends.output ≡ map kept_of after.kept.items
             k =
-                ap (λ (es : List (Option TaskEnd)). carried_over all (open_in es (length all)) kept places run.output) e
-                ∙ ap (λ m. carried_over all (open_in after.ends.ends m) kept places run.output) (sym count)
-                ∙ ap (λ (xs : List Activation). carried_over xs (open_in after.ends.ends (frame_count layout)) kept places run.output) (sym is.are_all)
+                ap (λ (es : List (Option TaskEnd)). carried_over all (open_in es (length all)) kept places ends.output) e
+                ∙ ap (λ m. carried_over all (open_in after.ends.ends m) kept places ends.output) (sym count)
+                ∙ ap (λ (xs : List Activation). carried_over xs (open_in after.ends.ends (frame_count layout)) kept places ends.output) (sym is.are_all)
                 ∙ sym carried
 
-            o : output_over held.ends.output places run.output (written_count all 1) ≡ after.ends.output
-            o = ap (output_over held.ends.output places run.output) (sym positions) ∙ sym output_put
+            o : output_over held.ends.output places ends.output (written_count all 1) ≡ after.ends.output
+            o = ap (output_over held.ends.output places ends.output) (sym positions) ∙ sym output_put
 
             over : IsHeld all input body after.ends.ends (map kept_of after.kept.items) after.ends.output
             over =
                 subst (λ (os : List (Option Elem)). IsHeld all input body after.ends.ends (map kept_of after.kept.items) os) o
-                (subst (λ (ks : List epoch.Kept). IsHeld all input body after.ends.ends ks (output_over held.ends.output places run.output (written_count all 1))) k
-                (subst (λ (es : List (Option TaskEnd)). IsHeld all input body es (carried_over all (open_in put (length all)) kept places run.output) (output_over held.ends.output places run.output (written_count all 1))) e ended))
+                (subst (λ (ks : List epoch.Kept). IsHeld all input body after.ends.ends ks (output_over held.ends.output places ends.output (written_count all 1))) k
+                (subst (λ (es : List (Option TaskEnd)). IsHeld all input body es (carried_over all (open_in put (length all)) kept places ends.output) (output_over held.ends.output places ends.output (written_count all 1))) e ended))

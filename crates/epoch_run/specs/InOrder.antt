@@ -27,16 +27,16 @@ pub record AreLaidOut (code : Code) (input : List ℕ) (budgets : Budgets) (so_f
 
 -- Some of the activations so far have run in control order, the first ones, with the bodies of all that will come. The list has all from
 -- a number on, and those before it have run.
-pub record GoesInOrder (code : Code) (input : List ℕ) (budgets : Budgets) (run : Standing) (order : InOrder) : Type 0 where
-  pub laid_out : AreLaidOut code input budgets run.control run.layout
-  pub are_last : run.activations ≡ drop run.first (created_so_far run.control)
-  pub have_run : run.first ≤ length order.ends
-  pub within : length order.ends ≤ length (created_so_far run.control)
+pub record GoesInOrder (code : Code) (input : List ℕ) (budgets : Budgets) (standing : Standing) (order : InOrder) : Type 0 where
+  pub laid_out : AreLaidOut code input budgets standing.control standing.layout
+  pub are_last : standing.activations ≡ drop standing.first (created_so_far standing.control)
+  pub have_run : standing.first ≤ length order.ends
+  pub within : length order.ends ≤ length (created_so_far standing.control)
   pub ready : IsReady code order
-  pub behind : StandsBehind (parts_of code) (created (parts_of code) input budgets) (take (length order.ends) (created_so_far run.control)) input
+  pub behind : StandsBehind (parts_of code) (created (parts_of code) input budgets) (take (length order.ends) (created_so_far standing.control)) input
       budgets.task order
 
 -- all activations so far have run in control order
-pub record HaveRunInOrder (code : Code) (input : List ℕ) (budgets : Budgets) (run : Standing) (order : InOrder) : Type 0 where
-  pub goes : GoesInOrder code input budgets run order
-  pub all : length order.ends ≡ length (created_so_far run.control)
+pub record HaveRunInOrder (code : Code) (input : List ℕ) (budgets : Budgets) (standing : Standing) (order : InOrder) : Type 0 where
+  pub goes : GoesInOrder code input budgets standing order
+  pub all : length order.ends ≡ length (created_so_far standing.control)

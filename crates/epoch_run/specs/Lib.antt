@@ -6,5 +6,5 @@ pub mod Bodies
 pub mod Held
 pub mod Standing
 pub mod InOrder
-pub mod Sharing
+pub mod Portioning
 pub mod NextSpans

@@ -44,24 +44,24 @@ pub record HasCreatedNext (at_most : ℕ) (before after : RunSoFar) (list longer
 
 -- The activations so far are those that the control program of a code has created, and they are laid out; what is held is
 -- that of those before the epoch that comes. The list has all from a number on, and those before it have ended.
-pub record StandsAt (code : Code) (input : List ℕ) (budgets : Budgets) (run : Standing) : Type 0 where
-  pub code_is : run.control.code ≡ parts_of code
-  pub input_is : run.control.input_len ≡ length input
-  pub budget_is : run.control.budget ≡ budgets.control
-  pub are_last : run.activations ≡ drop run.first (created_so_far run.control)
-  pub have_ended : (a : ℕ) → a < run.first → has_end_at run.held.ends.ends a ≡ true
-  pub within : run.first ≤ length (created_so_far run.control)
-  pub fit : All (Fits (parts_of code)) (created_so_far run.control)
-  pub lawful : AreLawful code.streams (created_so_far run.control)
+pub record StandsAt (code : Code) (input : List ℕ) (budgets : Budgets) (standing : Standing) : Type 0 where
+  pub code_is : standing.control.code ≡ parts_of code
+  pub input_is : standing.control.input_len ≡ length input
+  pub budget_is : standing.control.budget ≡ budgets.control
+  pub are_last : standing.activations ≡ drop standing.first (created_so_far standing.control)
+  pub have_ended : (a : ℕ) → a < standing.first → has_end_at standing.held.ends.ends a ≡ true
+  pub within : standing.first ≤ length (created_so_far standing.control)
+  pub fit : All (Fits (parts_of code)) (created_so_far standing.control)
+  pub lawful : AreLawful code.streams (created_so_far standing.control)
   pub has_output : 2 ≤ code.streams
-  pub streams : length run.layout.writers ≡ code.streams
-  pub over : run.layout.input_len ≡ length input
-  pub laid : IsLayoutOf run.layout (created_so_far run.control)
-  pub held : IsHeldBefore (parts_of code) (created_so_far run.control) input budgets.task run.held
+  pub streams : length standing.layout.writers ≡ code.streams
+  pub over : standing.layout.input_len ≡ length input
+  pub laid : IsLayoutOf standing.layout (created_so_far standing.control)
+  pub held : IsHeldBefore (parts_of code) (created_so_far standing.control) input budgets.task standing.held
 
 -- An epoch over these activations was run. The list has all of them from a number on, and those before it have ended.
-pub record HasRun (code : Code) (input : List ℕ) (budgets : Budgets) (all_created : List Activation) (run : Standing) : Type 0 where
-  pub are_last : run.activations ≡ drop run.first all_created
-  pub have_ended : (a : ℕ) → a < run.first → has_end_at run.held.ends.ends a ≡ true
-  pub within : run.first ≤ length all_created
-  pub held : IsHeldOf (parts_of code) all_created input budgets.task run.held
+pub record HasRun (code : Code) (input : List ℕ) (budgets : Budgets) (all_created : List Activation) (standing : Standing) : Type 0 where
+  pub are_last : standing.activations ≡ drop standing.first all_created
+  pub have_ended : (a : ℕ) → a < standing.first → has_end_at standing.held.ends.ends a ≡ true
+  pub within : standing.first ≤ length all_created
+  pub held : IsHeldOf (parts_of code) all_created input budgets.task standing.held

@@ -1,13 +1,13 @@
-//! Where the shares of a run begin.
+//! Where the portions of a run begin.
 
 use crate::pace::{Pace, RUNNING};
 use flow_core_laws::ACTIVATIONS_LIMIT;
 use stream_match::Layout;
 
-/// How many shares a run is given out in at most: a share costs its thread the creation of all activations before it.
-const MOST_SHARES: u32 = 8;
+/// How many portions a run is given out in at most: a portion costs its thread the creation of all activations before it.
+const MOST_PORTIONS: u32 = 8;
 
-/// How many activations a share runs beyond where the next one is to begin: that one may begin a few later, where its first ones need what those
+/// How many activations a portion runs beyond where the next one is to begin: that one may begin a few later, where its first ones need what those
 /// just before them wrote.
 const OVERLAP: u32 = 64;
 
@@ -17,13 +17,13 @@ const CREATING: u64 = 110;
 /// What it takes to create an activation and to pass it without running it, in the same steps.
 const PASSING: u64 = 56;
 
-/// What it takes to put what an activation of a share came to behind the shares before it, for each of its cells, in the same steps.
+/// What it takes to put what an activation of a portion came to behind the portions before it, for each of its cells, in the same steps.
 const JOINING: u64 = 5;
 
 /// How many parts make one: fractions and weights are counted in these parts.
 const ONE: u64 = 1_024;
 
-/// Where the shares of a run begin, such that each ends at about the time when those before it are joined: the worker of the first one has the
+/// Where the portions of a run begin, such that each ends at about the time when those before it are joined: the worker of the first one has the
 /// control program create all activations and lays them out, and that of each other one passes those before its own.
 #[derive(Clone, Copy)]
 pub(crate) struct Borders {
@@ -32,16 +32,16 @@ pub(crate) struct Borders {
     /// About how many activations come from that one on.
     all: u64,
     /// How much of the time of running an activation it takes to pass one, in parts of `ONE`, less what it takes to join one: a worker may run its own
-    /// while the shares before it are joined.
+    /// while the portions before it are joined.
     passing: u64,
     /// How many activations run in the time that it takes to create all of them.
     creating: u64,
-    /// How many shares there are.
+    /// How many portions there are.
     count: u32,
 }
 
 impl Borders {
-    /// The borders of shares for `workers` workers behind the activations of a layout, which all ran, at this pace. The first share begins before
+    /// The borders of portions for `workers` workers behind the activations of a layout, which all ran, at this pace. The first portion begins before
     /// these end, since it may have to begin a few later.
     pub(crate) fn behind(layout: &Layout, pace: Pace, workers: u32) -> Borders {
         let ran = count_of(layout).min(ACTIVATIONS_LIMIT);
@@ -54,23 +54,23 @@ impl Borders {
             all,
             passing: (ONE * PASSING.saturating_sub(joining) / running).min(ONE),
             creating: all.saturating_mul(CREATING) / running,
-            count: workers.clamp(1, MOST_SHARES),
+            count: workers.clamp(1, MOST_PORTIONS),
         }
     }
 
-    /// The number of the last share.
+    /// The number of the last portion.
     pub(crate) fn last(self) -> u32 {
         self.count.saturating_sub(1)
     }
 
-    /// The number of the first activation of a share.
+    /// The number of the first activation of a portion.
     pub(crate) fn begin(self, number: u32) -> u32 {
         let begin = u64::from(self.first).saturating_add(self.before(number));
         begin.min(u64::from(ACTIVATIONS_LIMIT)) as u32
     }
 
-    /// How many activations the shares before one have. Where creating all of them takes the first worker as long as the others run, its own
-    /// share is empty, and the others have all.
+    /// How many activations the portions before one have. Where creating all of them takes the first worker as long as the others run, its own
+    /// portion is empty, and the others have all.
     fn before(self, number: u32) -> u64 {
         let longest = self.longest(self.count, self.creating);
         if longest > self.creating {
@@ -114,7 +114,7 @@ impl Borders {
         weight.saturating_mul(ONE.saturating_sub(self.passing)) / ONE
     }
 
-    /// The number of the activation before which a share ends.
+    /// The number of the activation before which a portion ends.
     pub(crate) fn end(self, number: u32) -> u32 {
         if number >= self.last() {
             return ACTIVATIONS_LIMIT;

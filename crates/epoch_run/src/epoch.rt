@@ -177,7 +177,7 @@ fn run_these<R: Threads + Sync, G: Gate>(
         frames,
         held,
     )?;
-    let run = run_frames(
+    let ends = run_frames(
         rt,
         alloc,
         epoch.plan,
@@ -193,7 +193,7 @@ fn run_these<R: Threads + Sync, G: Gate>(
         readers,
         frames,
         epoch.leaves.as_slice(),
-        &run,
+        &ends,
     )?;
     Ok(())
 }
@@ -261,7 +261,7 @@ fn run_frames<R: Threads + Sync, B: Bodies<Scratch = Scratch>, G: Gate>(
         bodies: &bodies,
         frames,
     };
-    let run = run_plan(rt, alloc, &plan, &bodies, workers, gate, *pace)?;
+    let ends = run_plan(rt, alloc, &plan, &bodies, workers, gate, *pace)?;
     *pace = pace.behind(&plan, steps.load(Ordering::Relaxed));
-    Ok(run)
+    Ok(ends)
 }

@@ -25,11 +25,11 @@ use task_workers::Gate;
 /// after the other. What it comes to is the data-flow meaning of all activations that the control program creates.
 ///
 /// Where nobody waits, the activations run in control order instead: one after the other, without a plan, until one of them doesn't find there
-/// what it reads. By several workers they do so where bodies are short, and are shared out among these where that pays: then all activations are
+/// what it reads. By several workers they do so where bodies are short, and are portioned out among these where that pays: then all activations are
 /// created at once. Where one of them has to wait, the run goes on behind those that ran, and the others are created again as they come.
 ///
 /// The gate is called as in `execute`, with the number of a frame in its epoch, and in control order with worker 0 and the number of an
-/// activation in its stretch; of activations that a share runs it isn't told. Their positions, their ends and the output are held of the whole
+/// activation in its stretch; of activations that a portion runs it isn't told. Their positions, their ends and the output are held of the whole
 /// run, the activations themselves until all so far have ended, a plan and its cells of one epoch at a time.
 pub fn run_epochs<R: Threads + Sync, G: Gate>(
     rt: &R,
@@ -141,16 +141,16 @@ fn run_by<R: Threads + Sync, G: Gate>(
     ensures lawful { IfOk result (λ run. AreLawful code.now.streams (created (parts_of code.now) input.now budgets)) }
 {
     keep_room_in_place(alloc, workers);
-    let mut run = Standing::new(alloc, code, input, budgets)?;
+    let mut standing = Standing::new(alloc, code, input, budgets)?;
     let end = 'epochs: loop {
-        let next = run.next_size(size, workers);
-        let end = run.go_on(rt, alloc, code, input, budgets, workers, gate, next, way)?;
+        let next = standing.next_size(size, workers);
+        let end = standing.go_on(rt, alloc, code, input, budgets, workers, gate, next, way)?;
         if let Some(end) = end {
             break 'epochs end;
         }
     };
-    run.run_last(rt, alloc, code, input, budgets, workers, gate)?;
-    let Standing { layout, held, .. } = run;
+    standing.run_last(rt, alloc, code, input, budgets, workers, gate)?;
+    let Standing { layout, held, .. } = standing;
     let Held { ends, .. } = held;
     Ok(RunResult {
         layout,

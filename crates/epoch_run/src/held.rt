@@ -62,30 +62,30 @@ impl Held {
         readers: List<u32>,
         frames: &[u32],
         leaves: &[Stretch],
-        run: &Ends,
+        ends: &Ends,
     ) -> Result<(), Memory>
         requires layout { IsLayout layout.now }
         requires readers { readers ≡ open_in self.old.ends.ends (frame_count layout.now) }
         requires frames { AscendInLayout layout.now frames.now }
         requires are_open { (f a : ℕ) → slice_get frames.now f ≡ Some a → outcome_at self.old.ends.ends a ≡ None }
-        requires ends_fit { length run.now.ends ≡ length frames.now }
-        requires values_fit { length run.now.output ≡ length (flat_map stretch_places leaves.now) }
+        requires ends_fit { length ends.now.ends ≡ length frames.now }
+        requires values_fit { length ends.now.output ≡ length (flat_map stretch_places leaves.now) }
         requires more { length self.old.ends.ends ≤ frame_count layout.now }
         requires longer { length self.old.ends.output ≤ slice_index layout.now.cursors.writes 1 }
         requires kept_exist { All (λ k. k.stream < length layout.now.writers) self.old.kept.items }
         requires small { All (λ (s : Stretch). s.first + s.count < 2 ^ 64) leaves.now }
         requires places_exist { All (λ (p : Place). p.stream < length layout.now.writers) (flat_map stretch_places leaves.now) }
         ensures ends { OnOk result (self.new.ends.ends
-            ≡ put_over self.old.ends.ends frames.now run.now.ends (frame_count layout.now)) }
+            ≡ put_over self.old.ends.ends frames.now ends.now.ends (frame_count layout.now)) }
         ensures without_end { OnOk result (self.new.without_end ≡ open_in self.new.ends.ends (frame_count layout.now)) }
         ensures output { OnOk result (self.new.ends.output
-            ≡ output_over self.old.ends.output (flat_map stretch_places leaves.now) run.now.output (slice_index layout.now.cursors.writes 1)) }
+            ≡ output_over self.old.ends.output (flat_map stretch_places leaves.now) ends.now.output (slice_index layout.now.cursors.writes 1)) }
         ensures kept { OnOk result ((activations : List Activation) → IsLayoutOf layout.now activations
             → map kept_of self.new.kept.items ≡ carried_over activations (open_in self.new.ends.ends (frame_count layout.now))
-            (map kept_of self.old.kept.items) (flat_map stretch_places leaves.now) run.now.output) }
+            (map kept_of self.old.kept.items) (flat_map stretch_places leaves.now) ends.now.output) }
     {
         let leaves = joined(alloc, leaves)?;
-        self.take_joined(alloc, layout, readers, frames, leaves.as_slice(), run)
+        self.take_joined(alloc, layout, readers, frames, leaves.as_slice(), ends)
     }
 
     /// Takes what they came to by the stretches as they are: each of them is put and carried over by itself.
@@ -96,40 +96,40 @@ impl Held {
         readers: List<u32>,
         frames: &[u32],
         leaves: &[Stretch],
-        run: &Ends,
+        ends: &Ends,
     ) -> Result<(), Memory>
         requires layout { IsLayout layout.now }
         requires readers { readers ≡ open_in self.old.ends.ends (frame_count layout.now) }
         requires frames { AscendInLayout layout.now frames.now }
         requires are_open { (f a : ℕ) → slice_get frames.now f ≡ Some a → outcome_at self.old.ends.ends a ≡ None }
-        requires ends_fit { length run.now.ends ≡ length frames.now }
-        requires values_fit { length run.now.output ≡ length (flat_map stretch_places leaves.now) }
+        requires ends_fit { length ends.now.ends ≡ length frames.now }
+        requires values_fit { length ends.now.output ≡ length (flat_map stretch_places leaves.now) }
         requires more { length self.old.ends.ends ≤ frame_count layout.now }
         requires longer { length self.old.ends.output ≤ slice_index layout.now.cursors.writes 1 }
         requires kept_exist { All (λ k. k.stream < length layout.now.writers) self.old.kept.items }
         requires small { All (λ (s : Stretch). s.first + s.count < 2 ^ 64) leaves.now }
         requires places_exist { All (λ (p : Place). p.stream < length layout.now.writers) (flat_map stretch_places leaves.now) }
         ensures ends { OnOk result (self.new.ends.ends
-            ≡ put_over self.old.ends.ends frames.now run.now.ends (frame_count layout.now)) }
+            ≡ put_over self.old.ends.ends frames.now ends.now.ends (frame_count layout.now)) }
         ensures without_end { OnOk result (self.new.without_end ≡ open_in self.new.ends.ends (frame_count layout.now)) }
         ensures output { OnOk result (self.new.ends.output
-            ≡ output_over self.old.ends.output (flat_map stretch_places leaves.now) run.now.output (slice_index layout.now.cursors.writes 1)) }
+            ≡ output_over self.old.ends.output (flat_map stretch_places leaves.now) ends.now.output (slice_index layout.now.cursors.writes 1)) }
         ensures kept { OnOk result ((activations : List Activation) → IsLayoutOf layout.now activations
             → map kept_of self.new.kept.items ≡ carried_over activations (open_in self.new.ends.ends (frame_count layout.now))
-            (map kept_of self.old.kept.items) (flat_map stretch_places leaves.now) run.now.output) }
+            (map kept_of self.old.kept.items) (flat_map stretch_places leaves.now) ends.now.output) }
     {
         take_ends(
             &mut self.ends.ends,
             layout.frames(),
             frames,
-            run.ends.as_slice(),
+            ends.ends.as_slice(),
         )?;
         let positions = layout.cursors.writes.as_slice()[1] as usize;
         take_output(
             &mut self.ends.output,
             positions,
             leaves,
-            run.output.as_slice(),
+            ends.output.as_slice(),
         )?;
         self.without_end = still_open(alloc, readers, frames, self.ends.ends.as_slice())?;
         carry_over(
@@ -138,7 +138,7 @@ impl Held {
             self.without_end.as_slice(),
             &mut self.kept,
             leaves,
-            run.output.as_slice(),
+            ends.output.as_slice(),
         )?;
         Ok(())
     }

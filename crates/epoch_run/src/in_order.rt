@@ -21,12 +21,12 @@ ghost use Rattle.epoch_run.specs.Standing.{HasCreated, StandsAt};
 ghost use Rattle.epoch_run.specs.declared.result.Budgets.{Budgets};
 
 use crate::beside::create;
+use crate::portioning::portion_out;
 use crate::result::Budgets;
-use crate::sharing::share_out;
 use crate::standing::Standing;
 use epoch_run_bodies::laws::later_activations_change_nothing;
 use epoch_run_in_order::{HeldInOrder, InOrder};
-use epoch_run_shares::STRETCH;
+use epoch_run_portions::STRETCH;
 use flow_core_laws::{ACTIVATIONS_LIMIT, ControlEnd, Ends};
 use os_code::Code;
 use os_io::{List, Memory};
@@ -35,7 +35,7 @@ use std::mem;
 use std::thread::Threads;
 use task_workers::Gate;
 
-/// How many activations run before the others are shared out among several workers.
+/// How many activations run before the others are portioned out among several workers.
 const ALONE: usize = 1_024;
 
 /// More activations than a run ever has.
@@ -46,7 +46,7 @@ const MOST: usize = ACTIVATIONS_LIMIT as usize + 1;
 /// the next epoch. It answers how the control program has ended, once it has. After `Memory` the run is to be given up.
 pub(crate) fn run_in_order<'c, R: Threads + Sync, G: Gate>(
     rt: &R,
-    run: &mut Standing<'c>,
+    standing: &mut Standing<'c>,
     alloc: Global,
     code: &'c Code,
     input: &[u8],
@@ -56,50 +56,56 @@ pub(crate) fn run_in_order<'c, R: Threads + Sync, G: Gate>(
 ) -> Result<Option<ControlEnd>, Memory>
     requires input { length input.now ≤ input_limit }
     requires budgets { AreBudgets budgets }
-    requires stands { StandsAt code.now input.now budgets run.old }
-    requires ran { IsHeldOf (parts_of code.now) (created_so_far run.old.control) input.now budgets.task run.old.held }
-    requires none { length run.old.held.without_end ≡ 0 }
-    ensures stands { IfOk result (λ _. StandsAt code.now input.now budgets run.new) }
-    ensures grows { IfOk result (λ end. end ≡ None → length (created_so_far run.old.control) < length (created_so_far run.new.control)) }
-    ensures all { IfOk result (λ end. IfSome end (λ _. created_so_far run.new.control ≡ created (parts_of code.now) input.now budgets)) }
+    requires stands { StandsAt code.now input.now budgets standing.old }
+    requires ran { IsHeldOf (parts_of code.now) (created_so_far standing.old.control) input.now budgets.task standing.old.held }
+    requires none { length standing.old.held.without_end ≡ 0 }
+    ensures stands { IfOk result (λ _. StandsAt code.now input.now budgets standing.new) }
+    ensures grows { IfOk result (λ end. end ≡ None → length (created_so_far standing.old.control) < length (created_so_far standing.new.control)) }
+    ensures all { IfOk result (λ end. IfSome end (λ _. created_so_far standing.new.control ≡ created (parts_of code.now) input.now budgets)) }
     ensures end { IfOk result (λ end. IfSome end (λ e. e ≡ (main_control (parts_of code.now) (length input.now) budgets.control).end)) }
 {
     later_activations_change_nothing();
-    let mut order = begin(run, alloc, code)?;
+    let mut order = begin(standing, alloc, code)?;
     run_on(
-        rt, run, &mut order, alloc, code, input, budgets, workers, gate,
+        rt, standing, &mut order, alloc, code, input, budgets, workers, gate,
     )?;
-    hold(run, alloc, order)?;
-    Ok(run.control.end())
+    hold(standing, alloc, order)?;
+    Ok(standing.control.end())
 }
 
 /// Takes how the activations so far ended, and what is kept of them, for a run in control order.
-fn begin(run: &mut Standing<'_>, alloc: Global, code: &Code) -> Result<InOrder, Memory>
-    requires whole { IsLayout run.old.layout }
-    requires streams { length run.old.layout.writers ≡ code.now.streams }
+fn begin(standing: &mut Standing<'_>, alloc: Global, code: &Code) -> Result<InOrder, Memory>
+    requires whole { IsLayout standing.old.layout }
+    requires streams { length standing.old.layout.writers ≡ code.now.streams }
     ensures ready { IfOk result (IsReady code.now) }
-    ensures count { IfOk result (λ order. length order.ends ≡ length run.old.held.ends.ends) }
-    ensures stands { IfOk result (λ order. (all before : List Activation) (input : List ℕ) (budget : ℕ) → IsLayoutOf run.old.layout before
-        → IsHeld before input (frame_outcome (parts_of code.now) all budget) run.old.held.ends.ends (map kept_of run.old.held.kept.items)
-        run.old.held.ends.output
+    ensures count { IfOk result (λ order. length order.ends ≡ length standing.old.held.ends.ends) }
+    ensures stands { IfOk result (λ order. (all before : List Activation) (input : List ℕ) (budget : ℕ) → IsLayoutOf standing.old.layout before
+        → IsHeld before input (frame_outcome (parts_of code.now) all budget) standing.old.held.ends.ends (map kept_of standing.old.held.kept.items)
+        standing.old.held.ends.output
         → HaveAllEnded (meaning_in (parts_of code.now) all before input budget)
         → StandsBehind (parts_of code.now) all before input budget order) }
-    ensures same { OnOk result (run.new ≡ record run.old { held = run.new.held }) }
+    ensures same { OnOk result (standing.new ≡ record standing.old { held = standing.new.held }) }
 {
     let nothing = Ends {
         ends: List::new(alloc),
         output: List::new(alloc),
     };
-    let ends = mem::replace(&mut run.held.ends, nothing);
-    let order = InOrder::behind(alloc, code, &run.layout, ends, run.held.kept.as_slice())?;
+    let ends = mem::replace(&mut standing.held.ends, nothing);
+    let order = InOrder::behind(
+        alloc,
+        code,
+        &standing.layout,
+        ends,
+        standing.held.kept.as_slice(),
+    )?;
     Ok(order)
 }
 
-/// Runs stretch by stretch, as far as that goes. By several workers what comes behind the first stretches is shared out among them, where that
-/// serves, and what the shares leave goes on stretch by stretch.
+/// Runs stretch by stretch, as far as that goes. By several workers what comes behind the first stretches is portioned out among them, where that
+/// serves, and what the portions leave goes on stretch by stretch.
 fn run_on<'c, R: Threads + Sync, G: Gate>(
     rt: &R,
-    run: &mut Standing<'c>,
+    standing: &mut Standing<'c>,
     order: &mut InOrder,
     alloc: Global,
     code: &'c Code,
@@ -110,24 +116,29 @@ fn run_on<'c, R: Threads + Sync, G: Gate>(
 ) -> Result<(), Memory>
     requires input { length input.now ≤ input_limit }
     requires budgets { AreBudgets budgets }
-    requires ran { HaveRunInOrder code.now input.now budgets run.old order.old }
-    ensures goes { OnOk result (GoesInOrder code.now input.now budgets run.new order.new) }
-    ensures grows { OnOk result (run.new.control.has_ended ≡ false → length (created_so_far run.old.control) < length (created_so_far run.new.control)) }
-    ensures told { OnOk result (run.new.control.has_ended ≡ true → created_so_far run.new.control ≡ (whole run.new.control).activations) }
+    requires ran { HaveRunInOrder code.now input.now budgets standing.old order.old }
+    ensures goes { OnOk result (GoesInOrder code.now input.now budgets standing.new order.new) }
+    ensures grows { OnOk result (standing.new.control.has_ended ≡ false
+        → length (created_so_far standing.old.control) < length (created_so_far standing.new.control)) }
+    ensures told { OnOk result (standing.new.control.has_ended ≡ true → created_so_far standing.new.control ≡ (whole standing.new.control).activations) }
 {
     if workers == 1 {
-        run_stretches(run, order, alloc, code, input, budgets, workers, gate, MOST)?;
+        run_stretches(
+            standing, order, alloc, code, input, budgets, workers, gate, MOST,
+        )?;
         return Ok(());
     }
     let more = run_stretches(
-        run, order, alloc, code, input, budgets, workers, gate, ALONE,
+        standing, order, alloc, code, input, budgets, workers, gate, ALONE,
     )?;
     if !more {
         return Ok(());
     }
-    let all = share_out(rt, run, order, alloc, code, input, budgets, workers)?;
+    let all = portion_out(rt, standing, order, alloc, code, input, budgets, workers)?;
     if !all {
-        run_stretches(run, order, alloc, code, input, budgets, workers, gate, MOST)?;
+        run_stretches(
+            standing, order, alloc, code, input, budgets, workers, gate, MOST,
+        )?;
     }
     Ok(())
 }
@@ -135,7 +146,7 @@ fn run_on<'c, R: Threads + Sync, G: Gate>(
 /// Runs stretch by stretch, as far as that goes, and no further than the one with which `until` activations are laid out. It answers whether all so far ran,
 /// and more may come.
 fn run_stretches<G: Gate>(
-    run: &mut Standing<'_>,
+    standing: &mut Standing<'_>,
     order: &mut InOrder,
     alloc: Global,
     code: &Code,
@@ -146,15 +157,16 @@ fn run_stretches<G: Gate>(
     until: usize,
 ) -> Result<bool, Memory>
     requires budgets { AreBudgets budgets }
-    requires ran { HaveRunInOrder code.now input.now budgets run.old order.old }
-    ensures goes { OnOk result (GoesInOrder code.now input.now budgets run.new order.new) }
-    ensures grows { OnOk result (run.new.control.has_ended ≡ false → length (created_so_far run.old.control) < length (created_so_far run.new.control)) }
-    ensures told { OnOk result (run.new.control.has_ended ≡ true → created_so_far run.new.control ≡ (whole run.new.control).activations) }
-    ensures all { IfOk result (λ more. IsTrue more → HaveRunInOrder code.now input.now budgets run.new order.new) }
+    requires ran { HaveRunInOrder code.now input.now budgets standing.old order.old }
+    ensures goes { OnOk result (GoesInOrder code.now input.now budgets standing.new order.new) }
+    ensures grows { OnOk result (standing.new.control.has_ended ≡ false
+        → length (created_so_far standing.old.control) < length (created_so_far standing.new.control)) }
+    ensures told { OnOk result (standing.new.control.has_ended ≡ true → created_so_far standing.new.control ≡ (whole standing.new.control).activations) }
+    ensures all { IfOk result (λ more. IsTrue more → HaveRunInOrder code.now input.now budgets standing.new order.new) }
 {
     let goes_on = 'stretches: loop {
-        let goes_on = run_stretch(run, order, alloc, code, input, budgets, workers, gate)?;
-        if ends_here(goes_on, run.layout.frames(), until) {
+        let goes_on = run_stretch(standing, order, alloc, code, input, budgets, workers, gate)?;
+        if ends_here(goes_on, standing.layout.frames(), until) {
             break 'stretches goes_on;
         }
     };
@@ -170,7 +182,7 @@ fn ends_here(goes_on: bool, frames: usize, until: usize) -> bool
 
 /// Creates a stretch of activations and runs it, as far as that goes. It answers whether all of them ran, and more may come.
 fn run_stretch<G: Gate>(
-    run: &mut Standing<'_>,
+    standing: &mut Standing<'_>,
     order: &mut InOrder,
     alloc: Global,
     code: &Code,
@@ -180,50 +192,52 @@ fn run_stretch<G: Gate>(
     gate: &G,
 ) -> Result<bool, Memory>
     requires budgets { AreBudgets budgets }
-    requires ran { HaveRunInOrder code.now input.now budgets run.old order.old }
-    ensures goes { OnOk result (GoesInOrder code.now input.now budgets run.new order.new) }
-    ensures grows { OnOk result (run.new.control.has_ended ≡ false → length (created_so_far run.old.control) < length (created_so_far run.new.control)) }
-    ensures told { OnOk result (run.new.control.has_ended ≡ true → created_so_far run.new.control ≡ (whole run.new.control).activations) }
-    ensures all { IfOk result (λ more. IsTrue more → HaveRunInOrder code.now input.now budgets run.new order.new) }
-    ensures more { IfOk result (λ more. IsTrue more → run.new.control.has_ended ≡ false) }
+    requires ran { HaveRunInOrder code.now input.now budgets standing.old order.old }
+    ensures goes { OnOk result (GoesInOrder code.now input.now budgets standing.new order.new) }
+    ensures grows { OnOk result (standing.new.control.has_ended ≡ false
+        → length (created_so_far standing.old.control) < length (created_so_far standing.new.control)) }
+    ensures told { OnOk result (standing.new.control.has_ended ≡ true → created_so_far standing.new.control ≡ (whole standing.new.control).activations) }
+    ensures all { IfOk result (λ more. IsTrue more → HaveRunInOrder code.now input.now budgets standing.new order.new) }
+    ensures more { IfOk result (λ more. IsTrue more → standing.new.control.has_ended ≡ false) }
 {
-    create_stretch(run, alloc, STRETCH)?;
-    let all = run_created(run, order, code, input, budgets, workers, gate)?;
+    create_stretch(standing, alloc, STRETCH)?;
+    let all = run_created(standing, order, code, input, budgets, workers, gate)?;
     if !all {
         return Ok(false);
     }
-    order.give_up(alloc, &run.layout)?;
-    Ok(run.control.end().is_none())
+    order.give_up(alloc, &standing.layout)?;
+    Ok(standing.control.end().is_none())
 }
 
 /// Has the control program create the next `count` activations, or all that remain, and lays them out. Those before them have ended, and their lists
 /// are used again.
 pub(crate) fn create_stretch(
-    run: &mut Standing<'_>,
+    standing: &mut Standing<'_>,
     alloc: Global,
     count: u32,
 ) -> Result<(), Memory>
     requires some { 1 ≤ count }
-    requires laid { IsLayout run.old.layout }
-    requires takes { (after : RunSoFar) (added : List Activation) → HasCreated count run.old.control after [] added → TakesMore run.old.layout added }
-    ensures created { OnOk result (HasCreated count run.old.control run.new.control [] run.new.activations) }
-    ensures first { OnOk result (run.new.first ≡ frame_count run.old.layout) }
-    ensures laid { OnOk result ((before : List Activation) → IsLayoutOf run.old.layout before → IsLayoutOf run.new.layout (before ++ run.new.activations)) }
-    ensures streams { OnOk result (length run.new.layout.writers ≡ length run.old.layout.writers) }
-    ensures input { OnOk result (run.new.layout.input_len ≡ run.old.layout.input_len) }
+    requires laid { IsLayout standing.old.layout }
+    requires takes { (after : RunSoFar) (added : List Activation) → HasCreated count standing.old.control after [] added → TakesMore standing.old.layout added }
+    ensures created { OnOk result (HasCreated count standing.old.control standing.new.control [] standing.new.activations) }
+    ensures first { OnOk result (standing.new.first ≡ frame_count standing.old.layout) }
+    ensures laid { OnOk result ((before : List Activation) → IsLayoutOf standing.old.layout before
+        → IsLayoutOf standing.new.layout (before ++ standing.new.activations)) }
+    ensures streams { OnOk result (length standing.new.layout.writers ≡ length standing.old.layout.writers) }
+    ensures input { OnOk result (standing.new.layout.input_len ≡ standing.old.layout.input_len) }
 {
-    run.first = run.layout.frames() as u32;
-    let ended = mem::replace(&mut run.activations, List::new(alloc));
-    run.control.reuse(ended);
-    create(&mut run.control, &mut run.activations, count)?;
-    run.layout.append(run.activations.as_slice())?;
+    standing.first = standing.layout.frames() as u32;
+    let ended = mem::replace(&mut standing.activations, List::new(alloc));
+    standing.control.reuse(ended);
+    create(&mut standing.control, &mut standing.activations, count)?;
+    standing.layout.append(standing.activations.as_slice())?;
     Ok(())
 }
 
 /// Runs the activations of a stretch, as far as each of them finds there what it reads, and tells how long their bodies were. It
 /// answers whether all of them ran.
 fn run_created<G: Gate>(
-    run: &mut Standing<'_>,
+    standing: &mut Standing<'_>,
     order: &mut InOrder,
     code: &Code,
     input: &[u8],
@@ -232,37 +246,37 @@ fn run_created<G: Gate>(
     gate: &G,
 ) -> Result<bool, Memory>
     requires budgets { AreBudgets budgets }
-    requires goes { GoesInOrder code.now input.now budgets run.old order.old }
-    requires none_ran { run.old.first ≡ length order.old.ends }
-    ensures goes { OnOk result (GoesInOrder code.now input.now budgets run.new order.new) }
-    ensures all { IfOk result (λ all. IsTrue all → HaveRunInOrder code.now input.now budgets run.new order.new) }
-    ensures same { OnOk result (run.new ≡ record run.old { held = run.new.held }) }
+    requires goes { GoesInOrder code.now input.now budgets standing.old order.old }
+    requires none_ran { standing.old.first ≡ length order.old.ends }
+    ensures goes { OnOk result (GoesInOrder code.now input.now budgets standing.new order.new) }
+    ensures all { IfOk result (λ all. IsTrue all → HaveRunInOrder code.now input.now budgets standing.new order.new) }
+    ensures same { OnOk result (standing.new ≡ record standing.old { held = standing.new.held }) }
 {
     let begun = order.steps;
-    let pace = run.held.pace;
+    let pace = standing.held.pace;
     let count = order.run_all(
         code,
-        run.activations.as_slice(),
-        &run.layout,
+        standing.activations.as_slice(),
+        &standing.layout,
         input,
         budgets.task,
-        pace.most_steps(workers, run.activations.len() as u64),
+        pace.most_steps(workers, standing.activations.len() as u64),
         gate,
     )?;
-    run.held.pace = pace.behind_more(order.steps.saturating_sub(begun), count);
-    Ok(count == run.activations.len())
+    standing.held.pace = pace.behind_more(order.steps.saturating_sub(begun), count);
+    Ok(count == standing.activations.len())
 }
 
 /// Holds what was run, as after an epoch.
-fn hold(run: &mut Standing<'_>, alloc: Global, order: InOrder) -> Result<(), Memory>
-    ensures stands { OnOk result ((code : Code) (input : List ℕ) (budgets : Budgets) → GoesInOrder code input budgets run.old order
-        → StandsAt code input budgets run.new) }
-    ensures control { OnOk result (run.new.control ≡ run.old.control) }
+fn hold(standing: &mut Standing<'_>, alloc: Global, order: InOrder) -> Result<(), Memory>
+    ensures stands { OnOk result ((code : Code) (input : List ℕ) (budgets : Budgets) → GoesInOrder code input budgets standing.old order
+        → StandsAt code input budgets standing.new) }
+    ensures control { OnOk result (standing.new.control ≡ standing.old.control) }
 {
     later_activations_change_nothing();
     let HeldInOrder { ends, kept } = order.hold(alloc)?;
-    run.held.ends = ends;
-    run.held.kept = kept;
-    run.held.without_end = List::new(alloc);
+    standing.held.ends = ends;
+    standing.held.kept = kept;
+    standing.held.without_end = List::new(alloc);
     Ok(())
 }

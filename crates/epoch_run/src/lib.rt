@@ -13,8 +13,8 @@
 //!
 //! Where nobody waits, and by several workers bodies are short, `run_epochs` goes on in control order instead (`epoch_run_in_order`): activations
 //! run one after the other, with no plan, until one of them doesn't find there what it reads. What ran is then held as after an epoch. Several
-//! workers share such a run out: each has a control program of its own create the activations up to the end of its share, and runs those from
-//! the share's begin on (`epoch_run_shares`).
+//! workers portion such a run out: each has a control program of its own create the activations up to the end of its portion, and runs those from
+//! the portion's begin on (`epoch_run_portions`).
 #![tactic(auto)]
 
 mod adding;
@@ -30,11 +30,11 @@ mod next_spans;
 mod open_bodies;
 mod pace;
 mod plan;
+mod portioning;
+mod portions;
 mod putting;
 mod result;
 mod room;
-mod shares;
-mod sharing;
 mod size;
 mod standing;
 mod unended;

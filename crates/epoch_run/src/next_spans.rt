@@ -10,7 +10,7 @@ use flow_core_laws::{Activation, Claim};
 use os_io::{List, Memory};
 use std::alloc::Global;
 use stream_match::{Layout, Span};
-use stream_match_layouts::Cursors;
+use stream_match_layouts::{Cursors, Offsets};
 
 /// The positions of activations that come next, apart from the layout that they are to stand behind: so they are worked out while
 /// workers read that layout. What it holds is counted on from the layout, and is put behind it as it stands.
@@ -66,16 +66,10 @@ impl NextSpans {
             → IsLayoutOf (joined layout.now self.new) (before ++ activation.now ∷ [])) }
     {
         let frame = (layout.starts.len() + self.starts.len() - 1) as u16;
-        let mut inputs = 0;
-        let mut outputs = 0;
+        let mut offsets = Offsets::new();
         for claim in activation.claims.as_slice() {
-            if claim.write {
-                self.take(frame, claim, outputs)?;
-                outputs += claim.horizon;
-            } else {
-                self.take(frame, claim, inputs)?;
-                inputs += claim.horizon;
-            }
+            let offset = offsets.next(claim);
+            self.take(frame, claim, offset)?;
         }
         self.starts
             .push((layout.spans.len() + self.spans.len()) as u32)?;

@@ -12,16 +12,16 @@ const CELL_STEPS: u64 = 80;
 /// What it takes to create an activation and to run it in control order, besides its own steps.
 pub(crate) const RUNNING: u64 = 170;
 
-/// How many steps an average body has to take for three workers or more to gain by sharing a run in control order out: one of them creates all
+/// How many steps an average body has to take for three workers or more to gain by portioning a run in control order out: one of them creates all
 /// activations, and each other one creates those before its own as well.
-const SHARE_STEPS: u64 = 20;
+const PORTION_STEPS: u64 = 20;
 
 /// How many steps it has to take for two workers to gain.
-const SHARE_STEPS_OF_TWO: u64 = 90;
+const PORTION_STEPS_OF_TWO: u64 = 90;
 
-/// How many steps it has to take for each of its cells, with `RUNNING` added to them: what a share wrote is put behind what the others wrote, which
+/// How many steps it has to take for each of its cells, with `RUNNING` added to them: what a portion wrote is put behind what the others wrote, which
 /// takes about as long as writing it did.
-const SHARED_CELL_STEPS: u64 = 11;
+const PORTIONED_CELL_STEPS: u64 = 11;
 
 /// The least number of steps for which it pays to run a plan by several workers, whatever a table costs.
 const LONG_STEPS: u64 = 4_096;
@@ -95,12 +95,12 @@ impl Pace {
         }
     }
 
-    /// Whether they are so long that `workers` workers gain by sharing a run out.
-    pub(crate) fn is_worth_shares(self, workers: u32) -> bool {
+    /// Whether they are so long that `workers` workers gain by portioning a run out.
+    pub(crate) fn is_worth_portions(self, workers: u32) -> bool {
         match self {
             Pace::Steps { each, cells } => {
-                each >= worth_shares(workers)
-                    && each.saturating_add(RUNNING) >= cells.saturating_mul(SHARED_CELL_STEPS)
+                each >= worth_portions(workers)
+                    && each.saturating_add(RUNNING) >= cells.saturating_mul(PORTIONED_CELL_STEPS)
             }
             Pace::Unknown => false,
         }
@@ -144,12 +144,12 @@ fn worth_a_table(cells: u64) -> u64 {
     cells.saturating_mul(CELL_STEPS).saturating_add(TABLE_STEPS)
 }
 
-/// The least number of steps of an average body from which on `workers` workers gain by sharing a run out; one worker never gains.
-fn worth_shares(workers: u32) -> u64 {
+/// The least number of steps of an average body from which on `workers` workers gain by portioning a run out; one worker never gains.
+fn worth_portions(workers: u32) -> u64 {
     match workers {
         0 | 1 => u64::MAX,
-        2 => SHARE_STEPS_OF_TWO,
-        _ => SHARE_STEPS,
+        2 => PORTION_STEPS_OF_TWO,
+        _ => PORTION_STEPS,
     }
 }
 

@@ -24,16 +24,16 @@ pub(crate) fn take_ends(
     ends: &mut List<Option<TaskEnd>>,
     count: usize,
     frames: &[u32],
-    run: &[Option<TaskEnd>],
+    frame_ends: &[Option<TaskEnd>],
 ) -> Result<(), Memory>
     requires more { length ends.old ≤ count }
-    requires fit { length run.now ≡ length frames.now }
+    requires fit { length frame_ends.now ≡ length frames.now }
     requires exist { (f a : ℕ) → slice_get frames.now f ≡ Some a → a < count }
     requires differ { (f g a : ℕ) → slice_get frames.now f ≡ Some a → slice_get frames.now g ≡ Some a → f ≡ g }
-    ensures { OnOk result (ends.new ≡ put_over ends.old frames.now run.now count) }
+    ensures { OnOk result (ends.new ≡ put_over ends.old frames.now frame_ends.now count) }
 {
     grow(ends, count)?;
-    put_over(ends.as_mut_slice(), frames, run);
+    put_over(ends.as_mut_slice(), frames, frame_ends);
     Ok(())
 }
 

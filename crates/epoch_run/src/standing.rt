@@ -49,7 +49,7 @@ pub(crate) struct Standing<'c> {
     pub layout: Layout,
     /// How the activations that were run ended, what they wrote to the output, and what of their elements may still be read.
     pub held: Held,
-    /// How many activations had run when several workers last tried to share the run out.
+    /// How many activations had run when several workers last tried to portion the run out.
     pub(crate) tried: u32,
 }
 
@@ -63,7 +63,7 @@ impl<'c> Standing<'c> {
     ) -> Result<Standing<'c>, Memory>
         requires input { length input.now ≤ input_limit }
         requires budgets { AreBudgets budgets }
-        ensures { IfOk result (λ run. StandsAt code.now input.now budgets run) }
+        ensures { IfOk result (λ standing. StandsAt code.now input.now budgets standing) }
     {
         run_in_epochs();
         let control = ControlRun::new(alloc, code, input.len() as u32, budgets.control)?;

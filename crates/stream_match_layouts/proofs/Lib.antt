@@ -2,6 +2,7 @@ pub mod Pushing
 pub mod Windows
 pub mod Bounds
 pub mod Appending
+pub mod OffsetsBehind
 pub mod Writers
 pub mod Tallies
 pub mod Sums

@@ -11,7 +11,7 @@ use Rattle.std.proofs.lemmas.List.Sums.{sum_by-append}
 use Rattle.std.proofs.lemmas.Option.{slice_get-get_or, get_or_from_slice_get}
 use Rattle.flow_core_laws.specs.declared.claim.Claim.{Claim}
 use Rattle.flow_core_laws.specs.declared.activation.Activation.{Activation}
-use Rattle.flow_core_laws.specs.Window.{Window, windows, windows_of, windows_behind, window_of, claims_of, claims_at, claim_at, no_claim, offset_after}
+use Rattle.flow_core_laws.specs.Window.{Window, windows, windows_of, windows_behind, window_of, claims_of, claims_at, claim_at, no_claim}
 use Rattle.flow_core_laws.proofs.Stretches.{flat_map-range-same, flat_map-range_more, slice_get-append_left, slice_get-append_right}
 use Rattle.flow_core_laws.proofs.Windows.{window_at, length-windows}
 use Rattle.stream_match_layouts.specs.Layout.{claims_in}
@@ -88,7 +88,3 @@ alike-push b claims c =
     one : (t : Bool) → sum_by (λ (d : Claim). d.horizon) (cond t (c ∷ []) []) ≡ cond t c.horizon 0
     one true = zero-add c.horizon
     one false = refl
-
--- a claim's offset is the horizons of the alike ones before it
-pub offset-alike : (b : Bool) (claims : List Claim) (k : ℕ) → (claim_at claims k).write ≡ b → offset_after (take k claims) (claim_at claims k) ≡ alike b (take k claims)
-offset-alike b claims k e = ap (λ t. sum_by (λ (d : Claim). d.horizon) (filter (λ (d : Claim). beq t d.write) (take k claims))) e

@@ -4,7 +4,8 @@ pub mod Layout
 -- its spans by activation, the write spans of a stream,
 pub mod Spans
 pub mod Writers
--- and how a claim moves the cursors of streams.
+-- how a claim moves the cursors of streams, and where its window lies among the inputs or outputs of its activation.
 pub mod Cursors
+pub mod Offsets
 -- What restates private functions: adding a claim.
 pub mod Adding

@@ -4,6 +4,7 @@ ghost use Rattle.stream_match_layouts.specs.Layout.{IsLayoutOf, TakesMore};
 ghost use Rattle.stream_match_layouts.specs.Adding.{HasRoom, with_claim};
 
 use crate::cursors::Cursors;
+use crate::offsets::Offsets;
 use crate::span::Span;
 use flow_core_laws::{Activation, Claim};
 use os_io::{List, Memory};
@@ -92,16 +93,10 @@ impl Layout {
         ensures input { OnOk result (self.new.input_len ≡ self.old.input_len) }
     {
         let frame = (self.starts.len() - 1) as u16;
-        let mut inputs = 0;
-        let mut outputs = 0;
+        let mut offsets = Offsets::new();
         for claim in activation.claims.as_slice() {
-            if claim.write {
-                self.take(frame, claim, outputs)?;
-                outputs += claim.horizon;
-            } else {
-                self.take(frame, claim, inputs)?;
-                inputs += claim.horizon;
-            }
+            let offset = offsets.next(claim);
+            self.take(frame, claim, offset)?;
         }
         self.starts.push(self.spans.len() as u32)?;
         Ok(())

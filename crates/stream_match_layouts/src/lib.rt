@@ -13,9 +13,11 @@ mod cursors;
 mod frame_spans;
 pub mod laws;
 mod layout;
+mod offsets;
 mod producer;
 mod span;
 
 pub use cursors::Cursors;
 pub use layout::Layout;
+pub use offsets::Offsets;
 pub use span::Span;

@@ -20,11 +20,11 @@ carry_over-requires-clause-exist c =
     let readers : List ℕ = c.args.readers in
     let count : ℕ = frame_count layout in
     let after : List (Option TaskEnd) = c.take_ends.new.ends in
-    let put : after ≡ put_over old frames c.args.run.now.ends count =
-    c.in_ok-take_ends.ensures ∙ ap (λ (rs : List (Option TaskEnd)). put_over old frames rs c.frames.result) c.as_slice.ensures ∙ ap (put_over old frames c.args.run.now.ends) c.frames.ensures in
+    let put : after ≡ put_over old frames c.args.ends.now.ends count =
+    c.in_ok-take_ends.ensures ∙ ap (λ (rs : List (Option TaskEnd)). put_over old frames rs c.frames.result) c.as_slice.ensures ∙ ap (put_over old frames c.args.ends.now.ends) c.frames.ensures in
     let is : c.in_ok-self.field-0 ≡ open_in after count =
     c.in_ok-self.ensures ∙ ap (λ (es : List (Option TaskEnd)). filter (λ a. is_none (outcome_at es a)) readers) c.as_slice-4.ensures
-    ∙ still_listed old frames c.args.run.now.ends after readers count c.requires.are_open c.requires.readers put in
+    ∙ still_listed old frames c.args.ends.now.ends after readers count c.requires.are_open c.requires.readers put in
     subst (All (λ f. f < count)) (sym (c.as_slice-5.ensures ∙ is)) (all_exist layout (open_in after count) (are_frames layout after count refl))
 
 pub returns-clause-without_end : goal.returns-clause-without_end
@@ -35,10 +35,10 @@ returns-clause-without_end c =
     let readers : List ℕ = c.args.readers in
     let count : ℕ = frame_count layout in
     let after : List (Option TaskEnd) = c.take_ends.new.ends in
-    let put : after ≡ put_over old frames c.args.run.now.ends count =
-    c.in_ok-take_ends.ensures ∙ ap (λ (rs : List (Option TaskEnd)). put_over old frames rs c.frames.result) c.as_slice.ensures ∙ ap (put_over old frames c.args.run.now.ends) c.frames.ensures in
+    let put : after ≡ put_over old frames c.args.ends.now.ends count =
+    c.in_ok-take_ends.ensures ∙ ap (λ (rs : List (Option TaskEnd)). put_over old frames rs c.frames.result) c.as_slice.ensures ∙ ap (put_over old frames c.args.ends.now.ends) c.frames.ensures in
     c.in_ok-self.ensures ∙ ap (λ (es : List (Option TaskEnd)). filter (λ a. is_none (outcome_at es a)) readers) c.as_slice-4.ensures
-    ∙ still_listed old frames c.args.run.now.ends after readers count c.requires.are_open c.requires.readers put
+    ∙ still_listed old frames c.args.ends.now.ends after readers count c.requires.are_open c.requires.readers put
 
 pub returns-clause-kept : goal.returns-clause-kept
 returns-clause-kept c = λ activations of.
@@ -48,11 +48,11 @@ returns-clause-kept c = λ activations of.
     let readers : List ℕ = c.args.readers in
     let count : ℕ = frame_count layout in
     let after : List (Option TaskEnd) = c.take_ends.new.ends in
-    let put : after ≡ put_over old frames c.args.run.now.ends count =
-    c.in_ok-take_ends.ensures ∙ ap (λ (rs : List (Option TaskEnd)). put_over old frames rs c.frames.result) c.as_slice.ensures ∙ ap (put_over old frames c.args.run.now.ends) c.frames.ensures in
+    let put : after ≡ put_over old frames c.args.ends.now.ends count =
+    c.in_ok-take_ends.ensures ∙ ap (λ (rs : List (Option TaskEnd)). put_over old frames rs c.frames.result) c.as_slice.ensures ∙ ap (put_over old frames c.args.ends.now.ends) c.frames.ensures in
     let is : c.in_ok-self.field-0 ≡ open_in after count =
     c.in_ok-self.ensures ∙ ap (λ (es : List (Option TaskEnd)). filter (λ a. is_none (outcome_at es a)) readers) c.as_slice-4.ensures
-    ∙ still_listed old frames c.args.run.now.ends after readers count c.requires.are_open c.requires.readers put in
+    ∙ still_listed old frames c.args.ends.now.ends after readers count c.requires.are_open c.requires.readers put in
     c.in_ok-carry_over.ensures activations of
     ∙ ap (λ (fs : List ℕ). carried_over activations fs (map kept_of c.args.self.now.kept.items) (flat_map stretch_places c.args.leaves.now) c.as_slice-6.result.now) (c.as_slice-5.ensures ∙ is)
     ∙ ap (λ (vs : List (Option Elem)). carried_over activations (open_in after count) (map kept_of c.args.self.now.kept.items) (flat_map stretch_places c.args.leaves.now) vs) c.as_slice-6.ensures
@@ -68,7 +68,7 @@ still_open-requires c = λ none.
     let readers : List ℕ = c.args.readers in
     let count : ℕ = frame_count layout in
     let after : List (Option TaskEnd) = c.take_ends.new.ends in
-    let put : after ≡ put_over old frames c.args.run.now.ends count =
-    c.in_ok-take_ends.ensures ∙ ap (λ (rs : List (Option TaskEnd)). put_over old frames rs c.frames.result) c.as_slice.ensures ∙ ap (put_over old frames c.args.run.now.ends) c.frames.ensures in
+    let put : after ≡ put_over old frames c.args.ends.now.ends count =
+    c.in_ok-take_ends.ensures ∙ ap (λ (rs : List (Option TaskEnd)). put_over old frames rs c.frames.result) c.as_slice.ensures ∙ ap (put_over old frames c.args.ends.now.ends) c.frames.ensures in
     subst (λ (es : List (Option TaskEnd)). readers ≡ filter (λ a. is_none (outcome_at es a)) readers) (sym c.as_slice-4.ensures)
-    (none_ended old frames c.args.run.now.ends after readers count c.requires.more c.requires.readers put none)
+    (none_ended old frames c.args.ends.now.ends after readers count c.requires.more c.requires.readers put none)

@@ -1,17 +1,17 @@
-use Rattle.std.proofs.Common.{◌≡◌, ◌∙◌, ◌+◌, ◌-◌, ◌<◌, ◌++◌, ◌∷◌, [], true, false, cond, arith, sym, ap, subst, length, length-append, append_assoc, take, List}
-use Rattle.std.specs.Bool.{beq}
+use Rattle.std.proofs.Common.{◌≡◌, ◌∙◌, ◌+◌, ◌-◌, ◌^◌, ◌<◌, ◌++◌, ◌∷◌, [], arith, sym, ap, subst, length, length-append, append_assoc, take, List}
 use Rattle.flow_core_laws.specs.declared.claim.Claim.{Claim}
 use Rattle.flow_core_laws.specs.Window.{Window, claim_at}
 use Rattle.stream_match_layouts.specs.declared.layout.Layout.{Layout}
 use Rattle.stream_match_layouts.specs.Layout.{claims_in, IsOfWindows}
 use Rattle.stream_match_layouts.specs.Cursors.{HasCursors}
-use Rattle.stream_match_layouts.proofs.Windows.{alike, first_windows}
-use Rattle.stream_match_layouts.proofs.Appending.{alike_fits, length-before, before_few, room_at, spans_few, added_claim, alike-more, added_activation}
+use Rattle.stream_match_layouts.specs.Offsets.{offset_by}
+use Rattle.stream_match_layouts.proofs.Windows.{first_windows}
+use Rattle.stream_match_layouts.proofs.Appending.{alike_fits, length-before, before_few, room_at, spans_few, added_claim, added_activation}
+use Rattle.stream_match_layouts.proofs.OffsetsBehind.{behind-more, offset-fits, offset_by-alike}
 use Rattle.epoch_run.specs.NextSpans.{joined}
 use Rattle.epoch_run.specs.declared.next_spans.NextSpans.{NextSpans}
 use Rattle.epoch_run.proofs.LaidBehind.{joined-with_next, length-joined}
 use Rattle.epoch_run.proofs.next_spans.NextSpans.add.Goals as goal
-use Rattle.epoch_run.proofs.next_spans.NextSpans.add.Goals.{then-claim+in_ok-take, else-claim+in_ok-take-2}
 
 pub overflow_add-frame : goal.overflow_add-frame
 overflow_add-frame c =
@@ -28,6 +28,15 @@ overflow_cast-frame c =
     let l = joined c.args.layout.now c.args.self.now in
     omega (arith, length-before l c.args.activation.now c.requires, before_few l c.args.activation.now c.requires, length-append c.args.layout.now.starts c.args.self.now.starts, c.len.ensures, c.len-2.ensures)
 
+pub next-offset-requires : goal.next-offset-requires
+next-offset-requires c =
+    let items = c.as_slice-claim-items.ensures in
+    let k = c.loop-claim.claim-index in
+    let lt = subst (λ xs. k < length xs) items c.loop-claim-test.true in
+    subst (λ xs. offset_by c.loop-claim.offsets (claim_at xs k) + (claim_at xs k).horizon < 2 ^ 32) (sym items)
+    (offset-fits (take k c.args.activation.now.claims) c.loop-claim.offsets (claim_at c.args.activation.now.claims k) c.loop-claim.invariant.offsets
+    (λ b. alike_fits (joined c.args.layout.now c.args.self.now) c.args.activation.now c.requires b k lt))
+
 pub take-requires : goal.take-requires
 take-requires c =
     let layout = c.args.layout.now in
@@ -36,31 +45,6 @@ take-requires c =
     let room = room_at (joined layout c.args.self.now) c.args.activation.now c.requires (joined layout c.loop-claim.self) (c.len.result + c.len-2.result - 1) k
     (subst (λ xs. k < length xs) items c.loop-claim-test.true) (length-joined layout c.loop-claim.self ∙ sym (length-joined layout c.args.self.now)) c.loop-claim.invariant.added in
     subst (λ xs. HasCursors c.loop-claim.self.cursors (claim_at xs k)) (sym items) room.cursors
-
-pub overflow_add-outputs : goal.overflow_add-outputs
-overflow_add-outputs c =
-    let items = c.as_slice-claim-items.ensures in
-    let k = c.loop-claim.claim-index in
-    let lt = subst (λ xs. k < length xs) items c.loop-claim-test.true in
-    let h = ap (λ xs. (claim_at xs k).horizon) items in
-    omega (arith, alike_fits (joined c.args.layout.now c.args.self.now) c.args.activation.now c.requires true k lt, h, c.loop-claim.invariant.outputs)
-
-pub take-requires-else-claim : goal.take-requires-else-claim
-take-requires-else-claim c =
-    let layout = c.args.layout.now in
-    let items = c.as_slice-claim-items.ensures in
-    let k = c.loop-claim.claim-index in
-    let room = room_at (joined layout c.args.self.now) c.args.activation.now c.requires (joined layout c.loop-claim.self) (c.len.result + c.len-2.result - 1) k
-    (subst (λ xs. k < length xs) items c.loop-claim-test.true) (length-joined layout c.loop-claim.self ∙ sym (length-joined layout c.args.self.now)) c.loop-claim.invariant.added in
-    subst (λ xs. HasCursors c.loop-claim.self.cursors (claim_at xs k)) (sym items) room.cursors
-
-pub overflow_add-inputs : goal.overflow_add-inputs
-overflow_add-inputs c =
-    let items = c.as_slice-claim-items.ensures in
-    let k = c.loop-claim.claim-index in
-    let lt = subst (λ xs. k < length xs) items c.loop-claim-test.true in
-    let h = ap (λ xs. (claim_at xs k).horizon) items in
-    omega (arith, alike_fits (joined c.args.layout.now c.args.self.now) c.args.activation.now c.requires false k lt, h, c.loop-claim.invariant.inputs)
 
 pub loop-claim-preserved : goal.loop-claim-preserved
 loop-claim-preserved c =
@@ -77,26 +61,14 @@ loop-claim-preserved c =
     let same = length-joined layout c.loop-claim.self ∙ sym (length-joined layout c.args.self.now) in
     let room = room_at before c.args.activation.now c.requires now frame k lt same c.loop-claim.invariant.added in
     let exists : claim.stream < length now.writers = subst (λ (d : Claim). d.stream < length now.writers) (sym is) room.stream_exists in
-    elim c.if-claim.branch [
-      | then-claim+in_ok-take w ↦ (let self = w.self-is ∙ w.in_ok-take.ensures in
-          let none : c.loop-claim.inputs ≡ c.loop-claim.inputs + 0 = omega arith in
-          record {
-            added = λ ws of. subst (λ (l : Layout). IsOfWindows l (ws ++ first_windows frame (claims_in ws) cl (k + 1))) (sym (ap (joined layout) self ∙ joined-with_next layout c.loop-claim.self frame claim c.loop-claim.outputs))
-                (added_claim before now frame k c.loop-claim.outputs cl claim is lt exists (c.loop-claim.invariant.outputs ∙ ap (λ b. alike b (take k cl)) (sym w.if-claim.true)) c.loop-claim.invariant.added ws of);
-            starts = ap (λ (n : NextSpans). n.starts) self ∙ c.loop-claim.invariant.starts;
-            inputs = alike-more false cl k c.loop-claim.inputs c.if-claim.inputs claim lt is c.loop-claim.invariant.inputs (w.inputs-is ∙ none ∙ ap (λ b. c.loop-claim.inputs + cond (beq false b) claim.horizon 0) (sym w.if-claim.true));
-            outputs = alike-more true cl k c.loop-claim.outputs c.if-claim.outputs claim lt is c.loop-claim.invariant.outputs (w.outputs-is ∙ ap (λ b. c.loop-claim.outputs + cond (beq true b) claim.horizon 0) (sym w.if-claim.true));
-          })
-      | else-claim+in_ok-take-2 w ↦ (let self = w.self-is ∙ w.in_ok-take-2.ensures in
-          let none : c.loop-claim.outputs ≡ c.loop-claim.outputs + 0 = omega arith in
-          record {
-            added = λ ws of. subst (λ (l : Layout). IsOfWindows l (ws ++ first_windows frame (claims_in ws) cl (k + 1))) (sym (ap (joined layout) self ∙ joined-with_next layout c.loop-claim.self frame claim c.loop-claim.inputs))
-                (added_claim before now frame k c.loop-claim.inputs cl claim is lt exists (c.loop-claim.invariant.inputs ∙ ap (λ b. alike b (take k cl)) (sym w.if-claim.false)) c.loop-claim.invariant.added ws of);
-            starts = ap (λ (n : NextSpans). n.starts) self ∙ c.loop-claim.invariant.starts;
-            inputs = alike-more false cl k c.loop-claim.inputs c.if-claim.inputs claim lt is c.loop-claim.invariant.inputs (w.inputs-is ∙ ap (λ b. c.loop-claim.inputs + cond (beq false b) claim.horizon 0) (sym w.if-claim.false));
-            outputs = alike-more true cl k c.loop-claim.outputs c.if-claim.outputs claim lt is c.loop-claim.invariant.outputs (w.outputs-is ∙ none ∙ ap (λ b. c.loop-claim.outputs + cond (beq true b) claim.horizon 0) (sym w.if-claim.false));
-          })
-    ]
+    let self = c.in_ok-take.ensures in
+    let offset = c.next-offset.ensures.offset ∙ offset_by-alike (take k cl) c.loop-claim.offsets claim c.loop-claim.invariant.offsets in
+    record {
+      added = λ ws of. subst (λ (l : Layout). IsOfWindows l (ws ++ first_windows frame (claims_in ws) cl (k + 1))) (sym (ap (joined layout) self ∙ joined-with_next layout c.loop-claim.self frame claim c.next-offset.result))
+          (added_claim before now frame k c.next-offset.result cl claim is lt exists offset c.loop-claim.invariant.added ws of);
+      starts = ap (λ (n : NextSpans). n.starts) self ∙ c.loop-claim.invariant.starts;
+      offsets = behind-more cl k claim c.loop-claim.offsets c.next-offset.new.self lt is c.loop-claim.invariant.offsets c.next-offset.ensures.counted;
+    }
 
 pub overflow_add-len : goal.overflow_add-len
 overflow_add-len c =

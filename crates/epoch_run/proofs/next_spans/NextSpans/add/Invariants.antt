@@ -1,7 +1,8 @@
-use Rattle.std.proofs.Common.{◌≡◌, ◌++◌, List, false, true, take}
+use Rattle.std.proofs.Common.{◌≡◌, ◌++◌, List, take}
 use Rattle.flow_core_laws.specs.Window.{Window}
 use Rattle.stream_match_layouts.specs.Layout.{claims_in, IsOfWindows}
-use Rattle.stream_match_layouts.proofs.Windows.{alike, first_windows}
+use Rattle.stream_match_layouts.proofs.OffsetsBehind.{AreBehind}
+use Rattle.stream_match_layouts.proofs.Windows.{first_windows}
 use Rattle.epoch_run.specs.NextSpans.{joined}
 use Rattle.epoch_run.proofs.next_spans.NextSpans.add.Given as goal
 
@@ -10,6 +11,5 @@ abbrev pub invariant-loop-claim : goal.invariant-loop-claim
 invariant-loop-claim l = record {
   added : (ws : List Window) → IsOfWindows (joined l.layout l.initial.self) ws → IsOfWindows (joined l.layout l.self) (ws ++ first_windows l.frame (claims_in ws) l.activation.claims l.claim-index);
   starts : l.self.starts ≡ l.initial.self.starts;
-  inputs : l.inputs ≡ alike false (take l.claim-index l.activation.claims);
-  outputs : l.outputs ≡ alike true (take l.claim-index l.activation.claims);
+  offsets : AreBehind (take l.claim-index l.activation.claims) l.offsets;
 }

@@ -1,7 +1,8 @@
-use Rattle.std.proofs.Common.{◌≡◌, ◌++◌, List, false, true, length, take}
+use Rattle.std.proofs.Common.{◌≡◌, ◌++◌, List, length, take}
 use Rattle.flow_core_laws.specs.Window.{Window}
 use Rattle.stream_match_layouts.specs.Layout.{claims_in, IsOfWindows}
-use Rattle.stream_match_layouts.proofs.Windows.{alike, first_windows}
+use Rattle.stream_match_layouts.proofs.OffsetsBehind.{AreBehind}
+use Rattle.stream_match_layouts.proofs.Windows.{first_windows}
 use Rattle.stream_match_layouts.proofs.layout.Layout.add.Given as goal
 
 -- the windows of the claims so far were added, and nothing else changed
@@ -11,6 +12,5 @@ invariant-loop-claim l = record {
   starts : l.self.starts ≡ l.initial.self.starts;
   streams : length l.self.writers ≡ length l.initial.self.writers;
   input_len : l.self.input_len ≡ l.initial.self.input_len;
-  inputs : l.inputs ≡ alike false (take l.claim-index l.activation.claims);
-  outputs : l.outputs ≡ alike true (take l.claim-index l.activation.claims);
+  offsets : AreBehind (take l.claim-index l.activation.claims) l.offsets;
 }
