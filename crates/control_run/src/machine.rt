@@ -4,7 +4,7 @@ ghost use Rattle.os_code.specs.declared.parts.Parts.{Parts};
 ghost use Rattle.control_run.specs.Ending.{HasGiven};
 
 use crate::made::Made;
-use crate::running::{Stopped, run};
+use crate::running::{CountedEnd, run};
 use crate::spare::Spare;
 use flow_core_laws::Activation;
 use os_code::{Code, CodeUnit};
@@ -77,7 +77,7 @@ impl Machine {
         spare: &mut Spare,
         into: &mut List<Activation>,
         at_most: u32,
-    ) -> Result<Option<Stopped>, Memory>
+    ) -> Result<Option<CountedEnd>, Memory>
         requires budget { budget ≤ budget_limit }
         requires some { 1 ≤ at_most }
         requires stands { HasCome (parts_of code.now) input_len budget (contents self.old) }
