@@ -1,10 +1,10 @@
 ghost use Rattle.std.specs.Prelude.{◌≡◌, ℕ, ◌≤◌, [], OnOk};
 ghost use Rattle.flow_core_laws.specs.Limits.{budget_limit, input_limit};
 ghost use Rattle.os_code.specs.declared.parts.Parts.{Parts};
-ghost use Rattle.control_run.specs.Ending.{HasGiven};
+ghost use Rattle.control_run.specs.Ending.{HasAppended};
 
 use crate::made::Made;
-use crate::running::{Stopped, run};
+use crate::running::{CountedEnd, run};
 use crate::spare::Spare;
 use flow_core_laws::Activation;
 use os_code::{Code, CodeUnit};
@@ -25,7 +25,7 @@ pub(crate) struct Machine {
 impl Machine {
     ghost use Rattle.std.specs.Prelude.{◌≡◌, ◌+◌, ◌≤◌, IfOk};
     ghost use Rattle.os_code.specs.Codes.{parts_of};
-    ghost use Rattle.control_run.specs.Ending.{HasCome, HasGiven, IsMainUnit, StopsAs, contents};
+    ghost use Rattle.control_run.specs.Ending.{HasCome, HasAppended, IsMainUnit, StopsAs, contents};
 
     /// A machine at the start of `main`, with the length of the input in slot 0. It reserves the operand stack, the slots
     /// and the calls that the code needs.
@@ -77,11 +77,11 @@ impl Machine {
         spare: &mut Spare,
         into: &mut List<Activation>,
         at_most: u32,
-    ) -> Result<Option<Stopped>, Memory>
+    ) -> Result<Option<CountedEnd>, Memory>
         requires budget { budget ≤ budget_limit }
         requires some { 1 ≤ at_most }
         requires stands { HasCome (parts_of code.now) input_len budget (contents self.old) }
-        ensures gives { HasGiven (parts_of code.now) input_len budget self.old.made.created self.new.made.created into.old into.new }
+        ensures gives { HasAppended (parts_of code.now) input_len budget self.old.made.created self.new.made.created into.old into.new }
         ensures at_most { self.new.made.created ≤ self.old.made.created + at_most }
         ensures stops { IfOk result (StopsAs (parts_of code.now) input_len budget (self.old.made.created + at_most) (contents self.new)) }
     {
@@ -116,8 +116,8 @@ fn hand_over(
     into: &mut List<Activation>,
 ) -> Result<(), Memory>
     requires ordered { from ≤ made.old.created }
-    ensures gives { (code : Parts) (input_len budget : ℕ) → HasGiven code input_len budget from made.old.created [] spare.old
-        → HasGiven code input_len budget from made.new.created into.old into.new }
+    ensures gives { (code : Parts) (input_len budget : ℕ) → HasAppended code input_len budget from made.old.created [] spare.old
+        → HasAppended code input_len budget from made.new.created into.old into.new }
     ensures few { made.new.created ≤ made.old.created }
     ensures same { OnOk result (made.new ≡ made.old) }
 {

@@ -1,4 +1,4 @@
-use crate::running::Stopped;
+use crate::running::CountedEnd;
 
 /// How far a run of `main` by stretches has come.
 #[derive(Clone, Copy, Debug)]
@@ -6,7 +6,7 @@ pub(crate) enum Stage {
     /// The run stands behind the stretches so far, and more activations may come.
     Standing,
     /// `main` has ended, and all activations were given.
-    Ended(Stopped),
+    Ended(CountedEnd),
     /// Memory ran out in a stretch: the run gives nothing more.
     GivenUp,
 }

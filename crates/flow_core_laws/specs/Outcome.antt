@@ -37,7 +37,7 @@ root_of number Done = None
 root_of number (Poisoned root) = Some root
 root_of number _ = Some number
 
--- the last code that a trap has
+-- the last code that a trap has: the traps of the language are held to it by the law `traps_have_codes` of `os_code`
 abbrev pub last_trap_code : ℕ
 last_trap_code = 8
 

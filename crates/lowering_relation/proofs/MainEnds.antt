@@ -14,7 +14,7 @@ use Rattle.os_code.specs.declared.instr.Instr.TheVariants as instr
 use Rattle.os_code.specs.declared.parts.Parts.{Parts}
 use Rattle.os_code.specs.Control.{halt_end}
 use Rattle.os_code.specs.Machine as machine
-use Rattle.os_code.specs.Machine.{Halt, Runs}
+use Rattle.os_code.specs.Machine.{Halt, RunsToHalt}
 use Rattle.os_code.specs.Parts.{instr_at}
 use Rattle.lowering_relation.proofs.Context.{InMain, Kept, Made, Context}
 use Rattle.lowering_relation.proofs.Flows.{Does, went, ended, settled, AlignedIn}
@@ -29,7 +29,7 @@ pub record MainEnds (code : Parts) (s : machine.MachineState) (r : Ran) : Type 0
   pub halt : Halt
   pub last : machine.MachineState
   pub count : ℕ
-  pub runs : Runs code s halt last count
+  pub runs : RunsToHalt code s halt last count
   pub ends : meaning.control_of r ≡ made_so last.created halt
 
 pub ends_from : {code : Parts} {s t : machine.MachineState} {r : Ran} → Leads code s t → MainEnds code t r → MainEnds code s r

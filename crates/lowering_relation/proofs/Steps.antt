@@ -14,7 +14,7 @@ use Rattle.flow_core_laws.specs.declared.activation.Activation.{Activation}
 use Rattle.os_code.specs.declared.instr.Instr.{Instr}
 use Rattle.os_code.specs.declared.instr.Instr.TheVariants as instr
 use Rattle.os_code.specs.declared.parts.Parts.{Parts}
-use Rattle.os_code.specs.Machine.{Frame, TaskWindow, MachineState, Halt, Trapped, OverBudget, Limited, Going, Halted, or_trap, or_its_trap, below, act, step, Runs, Halts, GoesOn}
+use Rattle.os_code.specs.Machine.{Frame, TaskWindow, MachineState, Halt, Trapped, OverBudget, Limited, Going, Halted, or_trap, or_its_trap, below, act, step, RunsToHalt, Halts, GoesOn}
 use Rattle.os_code.specs.Parts.{instr_at}
 
 -- what a machine's state holds beside its place, operands, callers and turns
@@ -86,7 +86,7 @@ module _ (code : Parts) where
   pub record Stops (s : MachineState) (e : Ending) (created : List Activation) : Type 0 where
     pub steps : ℕ
     pub last : MachineState
-    pub runs : Runs code s (halt_of e) last steps
+    pub runs : RunsToHalt code s (halt_of e) last steps
     pub made : last.created ≡ created
 
   pub stops_from : {s t : MachineState} {e : Ending} {created : List Activation} → Leads s t → Stops t e created → Stops s e created

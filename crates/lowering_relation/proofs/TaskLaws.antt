@@ -35,7 +35,7 @@ use Rattle.os_ast.specs.declared.program.Param.{Param}
 use Rattle.os_code.specs.declared.parts.Parts.{Parts}
 use Rattle.os_code.specs.declared.site.Site.{Site}
 use Rattle.os_code.specs.declared.unit.CodeUnit.{CodeUnit}
-use Rattle.os_code.specs.Machine.{Runs}
+use Rattle.os_code.specs.Machine.{RunsToHalt}
 use Rattle.os_code.specs.Outcomes as machine
 use Rattle.os_code.specs.Parts.{unit_at, site_at}
 use Rattle.os_code.specs.Tasks.{Fits, TaskOutcome, TaskEnds, task_start}
@@ -126,7 +126,7 @@ module _ (p : tree.ProgramTree) (code : Parts) (a : Activation) (inputs : List �
       let t = tasks_end code a inputs budget stands.valid fits in
       let same_site : t.ends.site ≡ site = let x : Some t.ends.site ≡ Some site = sym t.ends.is_site ∙ is_site in cc in
       let same_unit : t.ends.unit ≡ unit = let x : Some t.ends.unit ≡ Some unit = sym t.ends.is_unit ∙ ap (λ (y : Site). unit_at code y.unit) same_site ∙ is_unit in cc in
-      let one = runs_are_one code (task_start unit a inputs budget) h.last t.ends.last (halt_of e) t.ends.halt h.steps t.steps h.runs (subst (λ y. Runs code (task_start y a inputs budget) t.ends.halt t.ends.last t.steps) same_unit t.ends.runs) in
+      let one = runs_are_one code (task_start unit a inputs budget) h.last t.ends.last (halt_of e) t.ends.halt h.steps t.steps h.runs (subst (λ y. RunsToHalt code (task_start y a inputs budget) t.ends.halt t.ends.last t.steps) same_unit t.ends.runs) in
       no_limit t.ends.site.line n t.ends.halt t.ends.last (machine.code_outcome code a inputs budget) t.ends.ends (sym one.0 ∙ ap halt_of is)
 
   by_main : (m : Main) → scoped_main p ≡ Some m → Ends (outcome_in (Some m) a inputs budget)

@@ -35,7 +35,7 @@ use Rattle.os_code.specs.declared.instr.Instr.TheVariants as instr
 use Rattle.os_code.specs.declared.parts.Parts.{Parts}
 use Rattle.os_code.specs.declared.site.SiteItem.{SiteItem}
 use Rattle.os_code.specs.Machine as machine
-use Rattle.os_code.specs.Machine.{Halt, Trapped, OverBudget, Limited, frame_slots, act, step, Runs, Halts}
+use Rattle.os_code.specs.Machine.{Halt, Trapped, OverBudget, Limited, frame_slots, act, step, RunsToHalt, Halts}
 use Rattle.os_code.specs.Parts.{instr_at}
 use Rattle.os_code.specs.Tasks.{ClaimFits, Fits, TaskOutcome, IsDone, SendsNoByte, IsTrapped, IsOver, TaskEnds, task_start, task_windows}
 use Rattle.os_code.specs.Tasks as tasks
@@ -77,10 +77,10 @@ pub record EndsIn (code : Parts) (line : ℕ) (s : machine.MachineState) (out : 
   pub halt : Halt
   pub last : machine.MachineState
   pub count : ℕ
-  pub runs : Runs code s halt last count
+  pub runs : RunsToHalt code s halt last count
   pub ends : TaskOutcome line halt last out
 
-pub to_end : (code : Parts) (s last : machine.MachineState) → Leads code s last → instr_at code last.place ≡ Some instr.End → (count : ℕ) × Runs code s machine.Ended last count
+pub to_end : (code : Parts) (s last : machine.MachineState) → Leads code s last → instr_at code last.place ≡ Some instr.End → (count : ℕ) × RunsToHalt code s machine.Ended last count
 unfolding act
 to_end code s last stays is = (1, Halts (acts code last instr.End is))
 to_end code s last (steps {t = t} a l) is = let r = to_end code t last l is in (r.0 + 1, machine.GoesOn a r.1)
@@ -93,7 +93,7 @@ at_end code line claims m items s q turns stack l is same windows = by_case (mea
     last : machine.MachineState
     last = at [] q stack m turns
 
-    run_there : (count : ℕ) × Runs code s machine.Ended (at [] q stack m turns) count
+    run_there : (count : ℕ) × RunsToHalt code s machine.Ended (at [] q stack m turns) count
     run_there = to_end code s (at [] q stack m turns) l is
 
     bytes : meaning.gives_bytes claims items ≡ list_all tasks.sends_bytes m.windows

@@ -1,10 +1,15 @@
 //! Laws of codes and of the machine, for the proofs of those who make a code or run it. Each is a call that does
 //! nothing and ensures its law.
 
+ghost use Rattle.std.specs.Prelude.{◌≡◌};
+ghost use Rattle.c_int.specs.Traps.{trap_code};
+ghost use Rattle.c_int.specs.declared.trap.Trap.TheVariants.{OutputBurst};
+ghost use Rattle.flow_core_laws.specs.Outcome.{last_trap_code};
 ghost use Rattle.os_code.specs.ControlExamples.{ControlExamples};
 ghost use Rattle.os_code.specs.Examples.{Examples};
 ghost use Rattle.os_code.specs.Laws.{HeightsSuffice, TestsSuffice, RunsAreOne, TasksEnd, TaskEndsAreOne};
-ghost use Rattle.os_code.specs.Laws.{TaskEndsAreProper, MainEnds, MainEndsAreOne, StepsAreSmall, RunsGoOn, StepsAddUp};
+ghost use Rattle.os_code.specs.Laws.{TrapsHaveCodes, TaskEndsAreProper, MainEnds, MainEndsAreOne, StepsAreSmall, RunsGoOn};
+ghost use Rattle.os_code.specs.Laws.{StepsAddUp};
 ghost use Rattle.os_code.specs.Refusals.{Refusals};
 
 /// Heights that fit at each instruction show what validity says of all paths.
@@ -20,6 +25,13 @@ pub fn tests_suffice()
 /// From a state there is at most one run.
 pub fn runs_are_one()
     ensures { RunsAreOne }
+{}
+
+/// The runtime takes the numbers from 1 to a last one for codes of traps, and knows no trap by its name: each trap of the language
+/// has such a code, and the last one is that of a burst that isn't the horizon of its output window.
+pub fn traps_have_codes()
+    ensures each { TrapsHaveCodes }
+    ensures last { last_trap_code ≡ trap_code OutputBurst }
 {}
 
 /// Each activation that fits a valid code has an end, within `(budget + 1) * (code length + 1)` steps, and only one: it

@@ -24,7 +24,7 @@ form_nonempty form.OpenComment s p = omega (arith, p.0.within)
 form_nonempty form.IncludeLine s p = omega (arith, p.1.behind, p.1.within)
 form_nonempty form.PragmaStart s p = omega (arith, p.1.behind, p.1.within)
 form_nonempty form.OtherDirective s p = omega (arith, p.1.behind, p.1.within)
-form_nonempty form.Word s p = p.run.0
+form_nonempty form.Word s p = p.word_bytes.0
 form_nonempty form.Number s p = p.0.0
 form_nonempty (form.Mark m) s p = omega (arith, ap length p, (length-spelling m).0)
 

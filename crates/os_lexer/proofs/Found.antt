@@ -99,7 +99,7 @@ module _ (bytes : List ℕ) (nonempty : 0 < length bytes) where
       record {
         some = omega (arith, first.low);
         within = first.high;
-        of_form = record { run = run_to (letter_is_word_byte (slice_index bytes 0) letter); begins = ap is_letter (front_at (run_end bytes 1) 0 (omega (arith, first.low))) ∙ letter };
+        of_form = record { word_bytes = run_to (letter_is_word_byte (slice_index bytes 0) letter); begins = ap is_letter (front_at (run_end bytes 1) 0 (omega (arith, first.low))) ∙ letter };
       }
 
   finds-digit : is_digit (slice_index bytes 0) ≡ true → IsFound bytes (lexeme form.Number (run_end bytes 1))
@@ -271,7 +271,7 @@ module _ (bytes : List ℕ) (nonempty : 0 < length bytes) where
         let some = word_some in
         let at : (i : ℕ) → i < e - k → slice_index (drop k (take e bytes)) i ≡ slice_index bytes (k + i) = λ i below. get_or-drop k (take e bytes) i 0 ∙ front_at e (k + i) (omega arith) in
         record {
-          run = (omega arith, λ i below. ap is_word_byte (at i (omega arith)) ∙ run_byte (k + i) (omega arith) (omega arith));
+          word_bytes = (omega arith, λ i below. ap is_word_byte (at i (omega arith)) ∙ run_byte (k + i) (omega arith) (omega arith));
           begins = ap is_letter (at 0 (omega arith) ∙ ap (λ i. slice_index bytes i) (add-zero k)) ∙ letter;
         }
 

@@ -51,10 +51,10 @@ each_from_all p (x ∷ xs) e zero below = (and_parts _ _ e).0
 each_from_all p (x ∷ xs) e (suc i) below = each_from_all p xs (and_parts _ _ e).1 i (omega arith)
 
 pragma_word : IsWord (codes "pragma")
-pragma_word = record { run = (omega arith, each_from_all is_word_byte (codes "pragma") refl); begins = refl }
+pragma_word = record { word_bytes = (omega arith, each_from_all is_word_byte (codes "pragma") refl); begins = refl }
 
 include_word : IsWord (codes "include")
-include_word = record { run = (omega arith, each_from_all is_word_byte (codes "include") refl); begins = refl }
+include_word = record { word_bytes = (omega arith, each_from_all is_word_byte (codes "include") refl); begins = refl }
 
 include_fits : (xs : List ℕ) → take 7 xs ≡ codes "include" → 7 ≤ length xs
 include_fits xs e = let n : min 7 (length xs) ≡ 7 = sym (length-take 7 xs) ∙ ap length e in omega arith
@@ -155,9 +155,9 @@ module _ (bytes : List ℕ) (m : ℕ) (within : m ≤ length bytes) where
 
   longest-word : IsWord (take m bytes) → FindsAtLeast (lexeme_at bytes) m (lexeme form.Word m)
   longest-word s =
-      let some : 0 < m = omega (arith, s.run.0, front_length) in
+      let some : 0 < m = omega (arith, s.word_bytes.0, front_length) in
       let begins : is_letter (slice_index bytes 0) ≡ true = ap is_letter (sym (front_at 0 some)) ∙ s.begins in
-      longest-run form.Word s.run (lexeme_at-of_class bytes Letter (class_of-letter (slice_index bytes 0) begins))
+      longest-run form.Word s.word_bytes (lexeme_at-of_class bytes Letter (class_of-letter (slice_index bytes 0) begins))
 
   longest-number : IsForm form.Number (take m bytes) → FindsAtLeast (lexeme_at bytes) m (lexeme form.Number m)
   longest-number s =
@@ -311,16 +311,16 @@ module _ (bytes : List ℕ) (m : ℕ) (within : m ≤ length bytes) where
 
   word_letter : (k : ℕ) → k ≤ m → IsWord (drop k (take m bytes)) → is_letter (slice_index bytes k) ≡ true
   word_letter k low word =
-      let here : slice_index (drop k (take m bytes)) (k - k) ≡ slice_index bytes k = name_at k low k (omega arith) (omega (arith, word.run.0, name_length k)) in
+      let here : slice_index (drop k (take m bytes)) (k - k) ≡ slice_index bytes k = name_at k low k (omega arith) (omega (arith, word.word_bytes.0, name_length k)) in
       let zero_is : k - k ≡ 0 = omega arith in
       ap is_letter (sym here ∙ ap (λ i. slice_index (drop k (take m bytes)) i) zero_is) ∙ word.begins
 
   word_reaches : (k : ℕ) → k ≤ m → IsWord (drop k (take m bytes)) → m ≤ run_end bytes k
   word_reaches k low word = IsFirst-passes (run_end-first bytes k (omega arith)) m within
-      (λ i from below. not_from_true _ (ap is_word_byte (sym (name_at k low i from below)) ∙ word.run.1 (i - k) (omega (arith, name_length k))))
+      (λ i from below. not_from_true _ (ap is_word_byte (sym (name_at k low i from below)) ∙ word.word_bytes.1 (i - k) (omega (arith, name_length k))))
 
   word_some : (k : ℕ) → k ≤ m → IsWord (drop k (take m bytes)) → k < m
-  word_some k low word = omega (arith, word.run.0, name_length k)
+  word_some k low word = omega (arith, word.word_bytes.0, name_length k)
 
   -- the name that is read is the word, where it ends with the slice
   name_is : (k : ℕ) → run_end bytes k ≡ m → slice_range bytes k (run_end bytes k) ≡ drop k (take m bytes)
@@ -375,7 +375,7 @@ module _ (bytes : List ℕ) (m : ℕ) (within : m ≤ length bytes) where
       let is_found = at_hash k s.1 (omega arith) letter in
       let passes_word : (i : ℕ) → k ≤ i → i < k + 7 → ends_run bytes i ≡ false = λ i from below. not_from_true _
       (let point : k + (i - k) ≡ i = omega arith in
-      ap is_word_byte (ap (λ j. slice_index bytes j) (sym point) ∙ bytes_are (i - k) (omega arith)) ∙ include_word.run.1 (i - k) (omega arith))
+      ap is_word_byte (ap (λ j. slice_index bytes j) (sym point) ∙ bytes_are (i - k) (omega arith)) ∙ include_word.word_bytes.1 (i - k) (omega arith))
       in
       let first = run_end-first bytes k (omega arith) in
       let reaches : k + 7 ≤ run_end bytes k = IsFirst-passes first (k + 7) (omega arith) passes_word in

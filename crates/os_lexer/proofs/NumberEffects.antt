@@ -16,17 +16,17 @@ and_false true = refl
 and_false false = refl
 
 -- a value past the cap is a big number
-big : (mode : Mode) (run : List ℕ) (v : ℕ) → 4294967296 ≤ v → number_effect mode run (Some v) ≡ Fail fault.BigNumber
-big mode run v past =
+big : (mode : Mode) (bytes : List ℕ) (v : ℕ) → 4294967296 ≤ v → number_effect mode bytes (Some v) ≡ Fail fault.BigNumber
+big mode bytes v past =
     let no_int : nat_le v 2147483647 ≡ false = grind (arith, nat_tests) in
     let no_unsigned : nat_le v 4294967295 ≡ false = grind (arith, nat_tests) in
     ap₂ (λ a b. cond a (Give (kind.Number v) (mode_after_token mode)) (cond b (Give (kind.Wide v) (mode_after_token mode)) (Fail fault.BigNumber)))
-    (ap (λ b. may_be_int run && b) no_int ∙ and_false (may_be_int run)) (ap (λ b. may_be_unsigned run && b) no_unsigned ∙ and_false (may_be_unsigned run))
+    (ap (λ b. may_be_int bytes && b) no_int ∙ and_false (may_be_int bytes)) (ap (λ b. may_be_unsigned bytes && b) no_unsigned ∙ and_false (may_be_unsigned bytes))
 
-pub effect_capped : (mode : Mode) (run : List ℕ) (o : Option ℕ) → number_effect mode run (capped o) ≡ number_effect mode run o
-effect_capped mode run None = refl
-effect_capped mode run (Some v) =
+pub effect_capped : (mode : Mode) (bytes : List ℕ) (o : Option ℕ) → number_effect mode bytes (capped o) ≡ number_effect mode bytes o
+effect_capped mode bytes None = refl
+effect_capped mode bytes (Some v) =
     ⊎_elim
-    (λ below. let same : min v 4294967296 ≡ v = omega (arith, below) in ap (λ k. number_effect mode run (Some k)) same)
-    (λ past. big mode run (min v 4294967296) (omega (arith, past)) ∙ sym (big mode run v past))
+    (λ below. let same : min v 4294967296 ≡ v = omega (arith, below) in ap (λ k. number_effect mode bytes (Some k)) same)
+    (λ past. big mode bytes (min v 4294967296) (omega (arith, past)) ∙ sym (big mode bytes v past))
     (cases_lt v 4294967296)

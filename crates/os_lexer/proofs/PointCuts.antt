@@ -214,7 +214,7 @@ give_mode mode m name form.OpenComment s k p e = absurd (cc e)
 give_mode mode m name form.IncludeLine s k p e = include_gives mode m s k e
 give_mode mode m name form.PragmaStart s k p e = pragma_gives mode m s k e
 give_mode mode m name form.OtherDirective s k p e = absurd (cc e)
-give_mode mode m name form.Word s k p e = gives_along e (plain (word_opens (key_of s) name) (run_unfeed s p.run))
+give_mode mode m name form.Word s k p e = gives_along e (plain (word_opens (key_of s) name) (run_unfeed s p.word_bytes))
 give_mode mode m name form.Number s k p e = number_gives mode m s k (number_value s) (run_unfeed s p.0) e
 give_mode mode m name (form.Mark mark) s k p e = gives_along e (plain (λ b. refl) (ap (list_any is_line_feed) p ∙ mark_unfeed mark))
 

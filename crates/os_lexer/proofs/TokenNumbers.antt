@@ -42,17 +42,17 @@ word_fits : (key : Option Key) (name : ℕ) → HasFittingNumber (word_kind key 
 word_fits None name = tt
 word_fits (Some key) name = tt
 
-number_fits : (mode : Mode) (run : List ℕ) (v : Option ℕ) → GivesFitting (number_effect mode run v)
-number_fits mode run None = tt
-number_fits mode run (Some v) =
+number_fits : (mode : Mode) (bytes : List ℕ) (v : Option ℕ) → GivesFitting (number_effect mode bytes v)
+number_fits mode bytes None = tt
+number_fits mode bytes (Some v) =
     let number = Give (kind.Number v) (mode_after_token mode) in
     let wide = Give (kind.Wide v) (mode_after_token mode) in
-    let is_int = may_be_int run && nat_le v 2147483647 in
-    let is_unsigned = may_be_unsigned run && nat_le v 4294967295 in
+    let is_int = may_be_int bytes && nat_le v 2147483647 in
+    let is_unsigned = may_be_unsigned bytes && nat_le v 4294967295 in
     cond_both is_int number (cond is_unsigned wide (Fail fault.BigNumber)) GivesFitting
-    (λ e. omega (arith, leb-true v 2147483647 (and_parts (may_be_int run) (nat_le v 2147483647) e).1))
+    (λ e. omega (arith, leb-true v 2147483647 (and_parts (may_be_int bytes) (nat_le v 2147483647) e).1))
     (λ _. cond_both is_unsigned wide (Fail fault.BigNumber) GivesFitting
-    (λ e. omega (arith, leb-true v 4294967295 (and_parts (may_be_unsigned run) (nat_le v 4294967295) e).1)) (λ _. tt))
+    (λ e. omega (arith, leb-true v 4294967295 (and_parts (may_be_unsigned bytes) (nat_le v 4294967295) e).1)) (λ _. tt))
 
 effect_fits : (mode : Mode) (name : ℕ) (f : Form) (s : List ℕ) → GivesFitting (effect mode name f s)
 effect_fits mode name form.Space s = space_fits mode s

@@ -46,9 +46,9 @@ directive_effect _ effect = Fail fault.BadByte
 -- What a run that begins with a digit does: where it is no number it is a bad byte. An `int` is at most 2,147,483,647, an
 -- `unsigned` at most 4,294,967,295, and a number that fits no type that it may have is a big number.
 abbrev pub number_effect : Mode → List ℕ → Option ℕ → Effect
-number_effect mode run None = Fail fault.BadByte
-number_effect mode run (Some value) = if may_be_int run && nat_le value 2147483647 then Give (kind.Number value) (mode_after_token mode)
-    else (if may_be_unsigned run && nat_le value 4294967295 then Give (kind.Wide value) (mode_after_token mode) else Fail fault.BigNumber)
+number_effect mode bytes None = Fail fault.BadByte
+number_effect mode bytes (Some value) = if may_be_int bytes && nat_le value 2147483647 then Give (kind.Number value) (mode_after_token mode)
+    else (if may_be_unsigned bytes && nat_le value 4294967295 then Give (kind.Wide value) (mode_after_token mode) else Fail fault.BigNumber)
 
 -- a word that is no keyword is a name
 abbrev pub word_kind : Option Key → ℕ → Kind

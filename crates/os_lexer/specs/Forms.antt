@@ -13,7 +13,7 @@ IsWordBytes s = (0 < length s) × EachIndex s (λ i. IsTrue (is_word_byte (slice
 
 -- a run that begins with a letter or `_`: a keyword or a name (C11, 6.4.1 and 6.4.2)
 pub record IsWord (s : List ℕ) : Type 0 where
-  pub run : IsWordBytes s
+  pub word_bytes : IsWordBytes s
   pub begins : IsTrue (is_letter (slice_index s 0))
 
 -- `#`, and then spaces and tabs up to point k: the start of a directive (C11, 6.10)

@@ -41,21 +41,21 @@ plain_value (b ∷ rest) = if b == 48 then value_after_zero rest else value_if_a
 
 -- a run ends in `u` or `U`, the suffix of numbers that are `unsigned`
 abbrev pub has_suffix : List ℕ → Bool
-has_suffix run = slice_index run (length run - 1) == 117 || slice_index run (length run - 1) == 85
+has_suffix bytes = slice_index bytes (length bytes - 1) == 117 || slice_index bytes (length bytes - 1) == 85
 
 -- A number may have that suffix, and no other one. The value of a run that begins with a digit, if it is a number: it is that of
 -- the run without its suffix.
 abbrev pub number_value : List ℕ → Option ℕ
-number_value run = plain_value (if has_suffix run then take (length run - 1) run else run)
+number_value bytes = plain_value (if has_suffix bytes then take (length bytes - 1) bytes else bytes)
 
 -- a number that doesn't begin with `0` is decimal
 abbrev pub is_decimal : List ℕ → Bool
-is_decimal run = not (slice_index run 0 == 48)
+is_decimal bytes = not (slice_index bytes 0 == 48)
 
 -- The type of a number is the first that its value fits, of those that it may have: `int`, where it has no suffix, and then
 -- `unsigned`, where it has one or isn't decimal. What C has behind these, as `long`, the language hasn't.
 abbrev pub may_be_int : List ℕ → Bool
-may_be_int run = not (has_suffix run)
+may_be_int bytes = not (has_suffix bytes)
 
 abbrev pub may_be_unsigned : List ℕ → Bool
-may_be_unsigned run = has_suffix run || not (is_decimal run)
+may_be_unsigned bytes = has_suffix bytes || not (is_decimal bytes)

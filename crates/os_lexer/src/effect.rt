@@ -78,12 +78,12 @@ fn word_kind(word: &[u8], name: u32) -> Kind
 }
 
 /// What a run that begins with a digit does.
-fn number_effect(mode: Mode, run: &[u8]) -> Effect
-    ensures { result ≡ number_effect mode run.now (number_value run.now) }
+fn number_effect(mode: Mode, bytes: &[u8]) -> Effect
+    ensures { result ≡ number_effect mode bytes.now (number_value bytes.now) }
 {
-    match number_value(run) {
+    match number_value(bytes) {
         None => Effect::Fail(Fault::BadByte),
-        Some(value) => value_effect(mode, run, value),
+        Some(value) => value_effect(mode, bytes, value),
     }
 }
 

@@ -10,52 +10,52 @@ ghost use Rattle.os_lexer.specs.Reading.{capped};
 const CAP: u64 = 1 << 32;
 
 /// The value of a run that begins with a digit, if it is a number, but at most 4,294,967,296.
-pub(crate) fn number_value(run: &[u8]) -> Option<u64>
-    ensures { result ≡ capped (number_value run.now) }
+pub(crate) fn number_value(bytes: &[u8]) -> Option<u64>
+    ensures { result ≡ capped (number_value bytes.now) }
 {
-    if has_suffix(run) {
-        plain_value(&run[..run.len() - 1])
+    if has_suffix(bytes) {
+        plain_value(&bytes[..bytes.len() - 1])
     } else {
-        plain_value(run)
+        plain_value(bytes)
     }
 }
 
 /// Whether a number may be an `int`, where its value is one.
-pub(crate) fn may_be_int(run: &[u8]) -> bool
-    ensures { result ≡ may_be_int run.now }
+pub(crate) fn may_be_int(bytes: &[u8]) -> bool
+    ensures { result ≡ may_be_int bytes.now }
 {
-    !has_suffix(run)
+    !has_suffix(bytes)
 }
 
 /// Whether a number may be an `unsigned`, where its value is one.
-pub(crate) fn may_be_unsigned(run: &[u8]) -> bool
-    ensures { result ≡ may_be_unsigned run.now }
+pub(crate) fn may_be_unsigned(bytes: &[u8]) -> bool
+    ensures { result ≡ may_be_unsigned bytes.now }
 {
-    has_suffix(run) || !is_decimal(run)
+    has_suffix(bytes) || !is_decimal(bytes)
 }
 
 /// Whether a run ends in the suffix of numbers that are `unsigned`.
-fn has_suffix(run: &[u8]) -> bool
-    ensures { result ≡ has_suffix run.now }
+fn has_suffix(bytes: &[u8]) -> bool
+    ensures { result ≡ has_suffix bytes.now }
 {
-    matches!(run, [.., b'u' | b'U'])
+    matches!(bytes, [.., b'u' | b'U'])
 }
 
 /// Whether a number is decimal, and neither octal nor hexadecimal.
-fn is_decimal(run: &[u8]) -> bool
-    ensures { result ≡ is_decimal run.now }
+fn is_decimal(bytes: &[u8]) -> bool
+    ensures { result ≡ is_decimal bytes.now }
 {
-    !matches!(run, [b'0', ..])
+    !matches!(bytes, [b'0', ..])
 }
 
 /// The value of a number without a suffix, if it is of a form.
-fn plain_value(run: &[u8]) -> Option<u64>
-    ensures { result ≡ capped (plain_value run.now) }
+fn plain_value(bytes: &[u8]) -> Option<u64>
+    ensures { result ≡ capped (plain_value bytes.now) }
 {
-    match run {
+    match bytes {
         [] => None,
         [b'0', rest @ ..] => value_after_zero(rest),
-        _ => decimal_value(run),
+        _ => decimal_value(bytes),
     }
 }
 

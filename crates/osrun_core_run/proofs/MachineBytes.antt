@@ -18,7 +18,7 @@ use Rattle.os_code.specs.declared.site.Site.{Site}
 use Rattle.os_code.specs.declared.unit.CodeUnit.{CodeUnit}
 use Rattle.os_code.specs.IsValid.{IsValid}
 use Rattle.os_code.specs.Laws.{TasksEnd}
-use Rattle.os_code.specs.Machine.{MachineState, TaskWindow, Halt, Progress, Halted, step, Runs, Halts, GoesOn}
+use Rattle.os_code.specs.Machine.{MachineState, TaskWindow, Halt, Progress, Halted, step, RunsToHalt, Halts, GoesOn}
 use Rattle.os_code.specs.Outcomes.{code_outcome}
 use Rattle.os_code.specs.Parts.{unit_at}
 use Rattle.os_code.specs.Tasks.{TaskOutcome, IsDone, SendsNoByte, IsTrapped, IsOver, sends_bytes, task_start, task_windows, written_elements}
@@ -37,7 +37,7 @@ kept_halted s last halt _ (KeepsGoing shape) e = cc
 kept_halted s last halt _ KeepsStuck e = cc
 kept_halted s last halt _ (KeepsHalted {t = t} shape codes) e = let same : t ≡ last = cc in ap (λ (u : MachineState). shape_of u.windows) (sym same) ∙ shape
 
-run_keeps : (code : Parts) → IsValid code → (job : Job) → job.is_main ≡ false → (left : ℕ) (s last : MachineState) (halt : Halt) (n : ℕ) → IsSound code job left s → Runs code s halt last n
+run_keeps : (code : Parts) → IsValid code → (job : Job) → job.is_main ≡ false → (left : ℕ) (s last : MachineState) (halt : Halt) (n : ℕ) → IsSound code job left s → RunsToHalt code s halt last n
     → shape_of last.windows ≡ shape_of s.windows
 run_keeps code valid job no_main left s last halt _ sound (Halts is) = kept_halted s last halt (step code s) (keeps-step code valid job left s no_main sound) is
 run_keeps code valid job no_main left s last halt _ sound (GoesOn {t = t} {steps = n} is rest) =
@@ -126,7 +126,7 @@ code_gives tasks_end code x inputs budget valid fits long =
     let ends = had.ends in
     let sites : ends.site ≡ stands.site = let e : Some ends.site ≡ Some stands.site = sym ends.is_site ∙ stands.is_site in cc in
     let units : ends.unit ≡ stands.unit = let e : Some ends.unit ≡ Some stands.unit = sym ends.is_unit ∙ ap (λ (site : Site). unit_at code site.unit) sites ∙ stands.is_unit in cc in
-    let runs : Runs code (task_start stands.unit x inputs budget) ends.halt ends.last had.steps =
-    subst (λ (u : CodeUnit). Runs code (task_start u x inputs budget) ends.halt ends.last had.steps) units ends.runs in
+    let runs : RunsToHalt code (task_start stands.unit x inputs budget) ends.halt ends.last had.steps =
+    subst (λ (u : CodeUnit). RunsToHalt code (task_start u x inputs budget) ends.halt ends.last had.steps) units ends.runs in
     let kept = run_keeps code valid (record { is_main = false; windows = length (task_windows x.claims inputs) }) refl _ _ ends.last ends.halt had.steps stands.sound runs in
     gives_at x ends.site.line ends.halt ends.last (code_outcome code x inputs budget) ends.ends (kept ∙ start_shape x.claims inputs long)

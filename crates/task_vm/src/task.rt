@@ -79,7 +79,7 @@ pub fn run_task(
     scratch.steps = stopped.steps;
     scratch.turns = budget - stopped.turns;
     end_at(
-        stopped.stop,
+        stopped.halt,
         activation.claims.as_slice(),
         outputs,
         entry.line,
@@ -107,11 +107,11 @@ fn entry_of(code: &Code, activation: &Activation) -> Entry
 }
 
 /// The end of a task whose run stops so with these outputs.
-fn end_at(stop: TaskHalt, claims: &[Claim], outputs: &[i32], line: u32) -> TaskEnd
+fn end_at(halt: TaskHalt, claims: &[Claim], outputs: &[i32], line: u32) -> TaskEnd
     requires whole { sum_by (λ (claim : TheClaim). claim.horizon) (filter (λ (claim : TheClaim). claim.write) claims.now) ≤ length outputs.now }
-    ensures { result ≡ end_of stop (all_bytes_from claims.now outputs.now) line }
+    ensures { result ≡ end_of halt (all_bytes_from claims.now outputs.now) line }
 {
-    match stop {
+    match halt {
         TaskHalt::Ended => {
             if all_bytes(claims, outputs) {
                 TaskEnd::Done

@@ -70,35 +70,35 @@ returns-clause-made_again c =
 pub returns-clause-end : goal.returns-clause-end
 returns-clause-end c =
     let all = ending (parts_of c.args.code.now) c.args.code.now.valid c.args.activation.now c.requires.fits c.args.inputs.now c.args.budget c.entry_of-entry.result.unit c.entry_of-entry.result.line
-    c.entry_of-entry.ensures.unit c.entry_of-entry.ensures.line c.run-stopped.result.stop c.run-stopped.result.steps c.run-stopped.result.turns c.run-stopped.new.outputs c.run-stopped.ensures.stops in
-    c.end_at.ensures ∙ ap (λ (claims : List Claim). end_of c.run-stopped.result.stop (all_bytes_from claims c.run-stopped.new.outputs) c.entry_of-entry.result.line) c.as_slice-2.ensures ∙ all.end_is
+    c.entry_of-entry.ensures.unit c.entry_of-entry.ensures.line c.run-stopped.result.halt c.run-stopped.result.steps c.run-stopped.result.turns c.run-stopped.new.outputs c.run-stopped.ensures.stops in
+    c.end_at.ensures ∙ ap (λ (claims : List Claim). end_of c.run-stopped.result.halt (all_bytes_from claims c.run-stopped.new.outputs) c.entry_of-entry.result.line) c.as_slice-2.ensures ∙ all.end_is
 
 pub returns-clause-outputs : goal.returns-clause-outputs
 returns-clause-outputs c = λ done.
     let all = ending (parts_of c.args.code.now) c.args.code.now.valid c.args.activation.now c.requires.fits c.args.inputs.now c.args.budget c.entry_of-entry.result.unit c.entry_of-entry.result.line
-    c.entry_of-entry.ensures.unit c.entry_of-entry.ensures.line c.run-stopped.result.stop c.run-stopped.result.steps c.run-stopped.result.turns c.run-stopped.new.outputs c.run-stopped.ensures.stops in
-    all.outputs (sym (c.end_at.ensures ∙ ap (λ (claims : List Claim). end_of c.run-stopped.result.stop (all_bytes_from claims c.run-stopped.new.outputs) c.entry_of-entry.result.line) c.as_slice-2.ensures) ∙ done)
+    c.entry_of-entry.ensures.unit c.entry_of-entry.ensures.line c.run-stopped.result.halt c.run-stopped.result.steps c.run-stopped.result.turns c.run-stopped.new.outputs c.run-stopped.ensures.stops in
+    all.outputs (sym (c.end_at.ensures ∙ ap (λ (claims : List Claim). end_of c.run-stopped.result.halt (all_bytes_from claims c.run-stopped.new.outputs) c.entry_of-entry.result.line) c.as_slice-2.ensures) ∙ done)
 
 pub returns-clause-steps : goal.returns-clause-steps
 returns-clause-steps c =
     let all = ending (parts_of c.args.code.now) c.args.code.now.valid c.args.activation.now c.requires.fits c.args.inputs.now c.args.budget c.entry_of-entry.result.unit c.entry_of-entry.result.line
-    c.entry_of-entry.ensures.unit c.entry_of-entry.ensures.line c.run-stopped.result.stop c.run-stopped.result.steps c.run-stopped.result.turns c.run-stopped.new.outputs c.run-stopped.ensures.stops in
+    c.entry_of-entry.ensures.unit c.entry_of-entry.ensures.line c.run-stopped.result.halt c.run-stopped.result.steps c.run-stopped.result.turns c.run-stopped.new.outputs c.run-stopped.ensures.stops in
     all.ends
 
 pub returns-clause-few_steps : goal.returns-clause-few_steps
 returns-clause-few_steps c =
     let all = ending (parts_of c.args.code.now) c.args.code.now.valid c.args.activation.now c.requires.fits c.args.inputs.now c.args.budget c.entry_of-entry.result.unit c.entry_of-entry.result.line
-    c.entry_of-entry.ensures.unit c.entry_of-entry.ensures.line c.run-stopped.result.stop c.run-stopped.result.steps c.run-stopped.result.turns c.run-stopped.new.outputs c.run-stopped.ensures.stops in
+    c.entry_of-entry.ensures.unit c.entry_of-entry.ensures.line c.run-stopped.result.halt c.run-stopped.result.steps c.run-stopped.result.turns c.run-stopped.new.outputs c.run-stopped.ensures.stops in
     all.few_steps
 
 pub overflow_sub-scratch : goal.overflow_sub-scratch
 overflow_sub-scratch c =
     let all = ending (parts_of c.args.code.now) c.args.code.now.valid c.args.activation.now c.requires.fits c.args.inputs.now c.args.budget c.entry_of-entry.result.unit c.entry_of-entry.result.line
-    c.entry_of-entry.ensures.unit c.entry_of-entry.ensures.line c.run-stopped.result.stop c.run-stopped.result.steps c.run-stopped.result.turns c.run-stopped.new.outputs c.run-stopped.ensures.stops in
+    c.entry_of-entry.ensures.unit c.entry_of-entry.ensures.line c.run-stopped.result.halt c.run-stopped.result.steps c.run-stopped.result.turns c.run-stopped.new.outputs c.run-stopped.ensures.stops in
     all.few_turns
 
 pub returns-clause-turns : goal.returns-clause-turns
 returns-clause-turns c =
     let all = ending (parts_of c.args.code.now) c.args.code.now.valid c.args.activation.now c.requires.fits c.args.inputs.now c.args.budget c.entry_of-entry.result.unit c.entry_of-entry.result.line
-    c.entry_of-entry.ensures.unit c.entry_of-entry.ensures.line c.run-stopped.result.stop c.run-stopped.result.steps c.run-stopped.result.turns c.run-stopped.new.outputs c.run-stopped.ensures.stops in
+    c.entry_of-entry.ensures.unit c.entry_of-entry.ensures.line c.run-stopped.result.halt c.run-stopped.result.steps c.run-stopped.result.turns c.run-stopped.new.outputs c.run-stopped.ensures.stops in
     all.takes
