@@ -50,7 +50,7 @@ impl Streams {
 }
 
 /// The sum of the horizons of claims, or the greatest number where it is more.
-fn horizons(claims: &[Claim]) -> u64
+fn horizon_sum(claims: &[Claim]) -> u64
     ensures { result ≡ min (horizon_sum claims.now) (2 ^ 64 - 1) }
 {
     let mut sum: u64 = 0;
@@ -463,7 +463,7 @@ impl BodyState {
         if self.activations.len() >= ACTIVATIONS_LIMIT as usize {
             return Err(Stop::Ended(Ending::Limited(ControlLimit::Activations)));
         }
-        if self.horizons.saturating_add(horizons(claims)) > POSITIONS_LIMIT as u64 {
+        if self.horizons.saturating_add(horizon_sum(claims)) > POSITIONS_LIMIT as u64 {
             return Err(Stop::Ended(Ending::Limited(ControlLimit::Elements)));
         }
         Ok(())
@@ -481,7 +481,7 @@ impl BodyState {
         requires { limit self.old.activations claims.now ≡ None }
         ensures { Made result self.new (with_created site captured claims.now self.old) }
     {
-        let sum = horizons(claims);
+        let sum = horizon_sum(claims);
         let claims = self.with_skips(alloc, claims)?;
         self.activations.push(Activation {
             site,

@@ -1,4 +1,5 @@
-//! Whether a part of a task's body names something from round the body.
+//! Whether a part of a task's body names something from round the body. The compiler asks that by a walk of its own (`lowering_expressions`), of which
+//! nothing is used here: what it makes of a program is held against the meaning that is computed so.
 
 ghost use Rattle.std.specs.Prelude.{◌≡◌, map, option_map};
 ghost use Rattle.os_ast.specs.FreeNames.{declared_ids, start_ids};

@@ -2,7 +2,7 @@
 
 ghost use Rattle.std.specs.Prelude.{◌≡◌, ◌+◌, ◌-◌, ◌^◌, ◌≤◌, All, IfNone, IfOk, IfSome, length, min, sum_by, false, true};
 ghost use Rattle.flow_core_laws.specs.declared.claim.Claim.{Claim};
-ghost use Rattle.flow_core_laws.specs.Window.{claims_of};
+ghost use Rattle.flow_core_laws.specs.Window.{claims_of, horizon_sum};
 ghost use Rattle.stream_match_layouts.specs.Lawful.{IsLawfulClaim, AreLawful};
 ghost use Rattle.stream_match_layouts.specs.Layout.{IsLayout, IsLayoutOf};
 
@@ -44,7 +44,7 @@ fn are_lawful(alloc: Global, streams: u32, activations: &[Activation]) -> Result
     let claims = claims_in(alloc, activations)?;
     Ok(
         are_claims_lawful(streams, claims.as_slice())
-            && positions_in(claims.as_slice()) <= POSITIONS_LIMIT as u64
+            && horizon_sum(claims.as_slice()) <= POSITIONS_LIMIT as u64
             && moves_in(claims.as_slice()) < MOVES_BOUND,
     )
 }
@@ -106,9 +106,9 @@ fn is_lawful(streams: u32, claim: Claim) -> bool
     claim.stream != 1
 }
 
-/// How many positions claims cover together.
-fn positions_in(claims: &[Claim]) -> u64
-    ensures { result ≡ min (sum_by (λ (c : Claim). c.horizon) claims.now) (2 ^ 64 - 1) }
+/// The sum of the horizons of claims, or the greatest number where it is more.
+fn horizon_sum(claims: &[Claim]) -> u64
+    ensures { result ≡ min (horizon_sum claims.now) (2 ^ 64 - 1) }
 {
     let mut sum: u64 = 0;
     for claim in claims {

@@ -1,0 +1,6 @@
+use Rattle.std.proofs.Common.{◌≡◌, ◌-◌, ◌^◌, min, take}
+use Rattle.flow_core_laws.specs.Window.{horizon_sum}
+use Rattle.lawful_layouts.proofs.lawful.horizon_sum.Given as goal
+
+abbrev pub invariant-loop-claim : goal.invariant-loop-claim
+invariant-loop-claim l = l.sum ≡ min (horizon_sum (take l.claim-index l.claims)) (2 ^ 64 - 1)
