@@ -41,12 +41,6 @@ missing_more layout waits a missing lt are = record {
   cannot_come = λ stream exists. cannot_more layout waits (set waits a true) (one_more waits a lt) stream (get_or missing stream 0) (are.cannot_come stream exists);
 }
 
--- no mark stands among none
-pub no_mark : (n a : ℕ) → get_or (replicate n false) a false ≡ false
-no_mark zero a = refl
-no_mark (suc n) zero = refl
-no_mark (suc n) (suc a) = no_mark n a
-
 module _ (layout : Layout) (readers : List ℕ) where
   waiting_more : (waits more : List Bool) → HasMarks waits more → (a : ℕ) → IsWaiting layout readers waits a → IsWaiting layout readers more a
   waiting_more waits more has a w = record { number = w.number; is_reader = w.is_reader; waits_for = has_more layout waits more has (spans_of layout a) w.waits_for }
