@@ -8,7 +8,7 @@ top=$(cd "$(dirname "${BASH_SOURCE[0]}")/.." && pwd)
 work=$(mktemp -d)
 trap 'rm -rf "$work"' EXIT
 mkdir "$work/crates"
-below='os_io flow_core_laws stream_match_layouts lawful_layouts collector wait_certs_laws wait_certs'
+below='os_io flow_core_laws flow_core stream_match_layouts lawful_layouts collector wait_certs_laws wait_certs'
 for crate in $below; do
     cp -r "$top/crates/$crate" "$work/crates"
     grep -E "^$crate:" "$top/crates.txt" >>"$work/crates.txt"

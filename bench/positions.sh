@@ -8,8 +8,8 @@ top=$(cd "$(dirname "${BASH_SOURCE[0]}")/.." && pwd)
 work=$(mktemp -d)
 trap 'rm -rf "$work"' EXIT
 mkdir "$work/crates"
-for crate in os_io flow_core_laws flow_core_epochs stream_match_layouts stream_match lawful_layouts; do cp -r "$top/crates/$crate" "$work/crates"; done
-grep -E '^(os_io|flow_core_laws|flow_core_epochs|stream_match_layouts|stream_match|lawful_layouts):' "$top/crates.txt" >"$work/crates.txt"
+for crate in os_io flow_core_laws flow_core flow_core_epochs stream_match_layouts stream_match lawful_layouts; do cp -r "$top/crates/$crate" "$work/crates"; done
+grep -E '^(os_io|flow_core_laws|flow_core|flow_core_epochs|stream_match_layouts|stream_match|lawful_layouts):' "$top/crates.txt" >"$work/crates.txt"
 echo 'positions: lawful_layouts stream_match stream_match_layouts flow_core_laws os_io' >>"$work/crates.txt"
 
 positions=$work/crates/positions

@@ -42,12 +42,8 @@ echo 'rounds: lawful_layouts task_workers stream_match stream_match_layouts flow
 cp "$top/HANDLES" "$work"
 
 rounds=$work/crates/rounds
-mkdir -p "$rounds/src" "$rounds/specs"
+mkdir -p "$rounds/src"
 cp "$top/bench/rounds.program" "$rounds/src/main.rt"
-cp "$top/crates/runtime_tests/src/rounds/lasts.rt" "$rounds/src"
-cp "$top/crates/runtime_tests/specs/Lasts.antt" "$rounds/specs"
-echo 'pub mod Lasts' >"$rounds/specs/Lib.antt"
-find "$rounds" -name '*.rt' -exec sed -i 's/runtime_tests\.specs/rounds.specs/' {} +
 (cd "$rounds" && rt run -- lag 4 1 1 0 alone 1 1) >"$work/log" 2>&1 || { cat "$work/log" >&2; exit 1; }
 program=$rounds/out/rounds
 valgrind=$(command -v valgrind || true)

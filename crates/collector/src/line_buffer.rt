@@ -2,6 +2,7 @@ ghost use Rattle.std.specs.Prelude.{◌≡◌, ◌<◌, ◌++◌, ◌∷◌, [],
 ghost use Rattle.std.specs.Fmt.{decimal};
 ghost use Rattle.collector.specs.Buffering.{GoesOn};
 
+use itoa::Buffer;
 use os_io::{Sink, WriteError, write_whole};
 use std::marker::Model;
 
@@ -81,10 +82,7 @@ impl LineBuffer {
     pub(crate) fn number<S: Sink>(&mut self, sink: &mut S, number: u64) -> Result<(), WriteError>
         ensures { GoesOn S.Sink sink.old sink.new self.old self.new (decimal number) result }
     {
-        if number >= 10 {
-            self.number(sink, number / 10)?;
-        }
-        self.push(sink, b'0' + (number % 10) as u8)
+        self.text(sink, Buffer::new().format(number).as_bytes())
     }
 
     /// Adds a text and a number behind it.

@@ -6,8 +6,8 @@ use Rattle.std.specs.Option.{option_map}
 use Rattle.std.proofs.lemmas.List.{drop-map, drop_all, get_or-append_right, get_or-drop, length-append, length-drop, length-map, length-replicate, map-append, take_all}
 use Rattle.std.proofs.lemmas.List.Elements.{All-append, All-map, All-nil, All-replicate, All-tail}
 use Rattle.std.proofs.lemmas.List.FromFn.{get_or-map-range_with_len}
+use Rattle.os_io.proofs.Repeated.{get_or-repeated}
 use Rattle.flow_core_laws.specs.declared.activation.Activation.{Activation}
-use Rattle.flow_core_laws.specs.declared.elem.Elem.{Elem}
 use Rattle.flow_core_laws.specs.declared.elem.Elem.TheVariants.{Value, Poison}
 use Rattle.flow_core_laws.specs.declared.outcome.Outcome.{Outcome}
 use Rattle.flow_core_laws.specs.declared.task_end.TaskEnd.{TaskEnd}
@@ -144,12 +144,6 @@ next_stands_apart law grow code all before from next input budget order after in
         (All-append IsSome (get_or order.streams.elements s []) (added root outputs s ws) (stands.hold.are_there s some lt)
         (added_there root outputs s ws (subst (HaveOutputs root outputs) spans_are have)))
 
--- streams without elements have none on any stream
-blank_at : (n k : ℕ) → get_or (replicate {A = List (Option Elem)} n []) k [] ≡ []
-blank_at zero k = refl
-blank_at (suc n) zero = refl
-blank_at (suc n) (suc k) = blank_at n k
-
 -- a run apart begins without ends, and without elements from where it writes
 pub begins_apart : (code : Parts) (all before : List Activation) (input : List ℕ) (budget first streams : ℕ) (writes : List ℕ) (order : InOrder)
     → length before ≡ first → length writes ≡ streams → writes ≡ map (written_count before) (range_with_len 0 streams)
@@ -182,4 +176,4 @@ begins_apart code all before input budget first streams writes order is many wri
     first_is s lt = ap (λ fs. get_or fs s 0) (firsts_are ∙ writes_are) ∙ get_or-map-range_with_len (written_count before) 0 streams s s 0 lt (omega arith)
 
     blank : (s : ℕ) → get_or order.streams.elements s [] ≡ []
-    blank s = ap (λ es. get_or es s []) elements_are ∙ blank_at (length writes) s
+    blank s = ap (λ es. get_or es s []) elements_are ∙ get_or-repeated (length writes) s []

@@ -4,9 +4,10 @@ use Rattle.std.specs.Prelude.{slice_get}
 use Rattle.std.proofs.lemmas.Bool.{cases_eq}
 use Rattle.std.proofs.lemmas.List.{get_or-set_other, get_or-set_same, length-replicate, length-set}
 use Rattle.std.proofs.lemmas.Option.{slice_get-get_or}
+use Rattle.os_io.proofs.Repeated.{get_or-repeated}
 use Rattle.stream_match_layouts.specs.Spans.{frame_count, spans_of}
 use Rattle.stream_match_layouts.specs.declared.layout.Layout.{Layout}
-use Rattle.epoch_run_ready.proofs.Marks.{no_mark, one_more}
+use Rattle.epoch_run_ready.proofs.Marks.{one_more}
 use Rattle.epoch_run_ready.specs.Unreached.{AreJudged, ReadBefore, WriteBehind}
 
 module _ (layout : Layout) (readers : List ℕ) (first : ℕ) (low : List ℕ) where
@@ -21,7 +22,7 @@ module _ (layout : Layout) (readers : List ℕ) (first : ℕ) (low : List ℕ) w
   }
     where
       none : (a : ℕ) → get_or waits a false ≡ false
-      none a = ap (λ ws. get_or ws a false) is ∙ no_mark (frame_count layout) a
+      none a = ap (λ ws. get_or ws a false) is ∙ get_or-repeated (frame_count layout) a false
 
   -- one that gets a mark
   pub judged_marked : (waits : List Bool) (n a : ℕ) → a ≡ get_or readers n 0 → n < length readers → a < frame_count layout → a < first → ReadBefore low (spans_of layout a) → AreJudged layout readers first low waits (n + 1) → AreJudged layout readers first low (set waits a true) n

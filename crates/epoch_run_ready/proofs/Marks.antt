@@ -1,5 +1,5 @@
 -- Marks of activations that wait: one more leaves the others as they are.
-use Rattle.std.proofs.Common.{◌≡◌, ◌≢◌, ℕ, zero, suc, ◌<◌, List, Some, Bool, true, false, ◌⊎◌, inl, inr, length, get_or, set, replicate, refl, sym, ap, ◌∙◌, subst}
+use Rattle.std.proofs.Common.{◌≡◌, ◌≢◌, ℕ, ◌<◌, List, Some, Bool, true, false, ◌⊎◌, inl, inr, length, get_or, set, refl, sym, ap, ◌∙◌, subst}
 use Rattle.std.specs.Prelude.{slice_get}
 use Rattle.std.proofs.lemmas.Bool.{cases_eq}
 use Rattle.std.proofs.lemmas.List.{get_or-set_same, get_or-set_other, length-set}
@@ -40,12 +40,6 @@ missing_more layout waits a missing lt are = record {
   one_each = are.one_each;
   cannot_come = λ stream exists. cannot_more layout waits (set waits a true) (one_more waits a lt) stream (get_or missing stream 0) (are.cannot_come stream exists);
 }
-
--- no mark stands among none
-pub no_mark : (n a : ℕ) → get_or (replicate n false) a false ≡ false
-no_mark zero a = refl
-no_mark (suc n) zero = refl
-no_mark (suc n) (suc a) = no_mark n a
 
 module _ (layout : Layout) (readers : List ℕ) where
   waiting_more : (waits more : List Bool) → HasMarks waits more → (a : ℕ) → IsWaiting layout readers waits a → IsWaiting layout readers more a

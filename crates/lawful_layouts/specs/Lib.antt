@@ -1,1 +1,2 @@
--- What a reader believes: nothing but the words of `stream_match_layouts`.
+-- What a reader believes: what the bodies give, and else the words of `stream_match_layouts`.
+pub mod Lasts

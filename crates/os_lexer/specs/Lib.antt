@@ -13,7 +13,7 @@ pub mod Cover
 pub mod Cut
 pub mod Answer
 pub mod Laws
--- What restates private functions for their contracts.
+-- What restates the functions below `lex` for their contracts.
 pub mod Reading
 pub mod Spellings
 pub mod States

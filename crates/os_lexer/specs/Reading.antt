@@ -1,4 +1,4 @@
--- What the private functions give, one definition for each. The promises of `lex` don't cite them: that they find the
+-- What the functions below `lex` give, one definition for each. The promises of `lex` don't cite them: that they find the
 -- lexemes of the text is proved.
 use Rattle.std.specs.Prelude.{ℕ, zero, suc, min, ◌+◌, ◌-◌, Bool, not, ◌&&◌, ◌||◌, List, [], ◌∷◌, length, take, Option, Some}
 use Rattle.std.specs.Prelude.{None, map, position, codes, bytes_eq, nat_lt, ◌==◌, slice_index, slice_range, if◌then◌else◌}

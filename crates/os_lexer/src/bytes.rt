@@ -4,7 +4,7 @@ ghost use Rattle.os_lexer.specs.Reading.{class_of};
 
 /// The classes of the bytes at which a form may begin.
 #[derive(Clone, Copy)]
-pub(crate) enum Class {
+pub enum Class {
     White,
     Letter,
     Digit,
@@ -15,7 +15,8 @@ pub(crate) enum Class {
     Other,
 }
 
-pub(crate) fn class_of(byte: u8) -> Class
+/// The class of a byte.
+pub fn class_of(byte: u8) -> Class
     ensures { result ≡ class_of byte }
 {
     match byte {
@@ -29,7 +30,8 @@ pub(crate) fn class_of(byte: u8) -> Class
     }
 }
 
-pub(crate) fn is_word_byte(byte: u8) -> bool
+/// Whether words and numbers are made of the byte: a letter, a digit or `_`.
+pub fn is_word_byte(byte: u8) -> bool
     ensures { result ≡ is_word_byte byte }
 {
     matches!(byte, b'A'..=b'Z' | b'a'..=b'z' | b'_' | b'0'..=b'9')

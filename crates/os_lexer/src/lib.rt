@@ -11,7 +11,8 @@
 //! `specs/Cover.antt` is where a reader begins: it says what a cover and a first fault are, over the forms of
 //! `specs/Forms.antt` and what they do, in `specs/Effects.antt`. `specs/Cut.antt` says the same of a cut of the text,
 //! told by the tokens alone. `specs/Laws.antt` has that these are the same, and what follows, and the empty functions
-//! of `laws` are its proofs. `specs/Reading.antt` only says what the private functions give.
+//! of `laws` are its proofs. `specs/Reading.antt` only says what the functions below `lex` give: the classes of bytes, the
+//! marks of one byte and the ends of runs, blanks and comments, which who looks for the place of a fault asks too.
 #![tactic(auto)]
 
 mod bytes;
@@ -32,8 +33,11 @@ mod spellings;
 mod token;
 mod words;
 
+pub use bytes::{Class, class_of, is_word_byte};
 pub use cover::lex;
 pub use fault::{Fault, LexError};
 pub use laws::{cover_before_fault, cover_cuts, fixed_names_are_numbered, one_cover};
 pub use limits::TEXT_LIMIT;
+pub use marks::single_mark;
+pub use scans::{blanks_end, comment_end, run_end};
 pub use token::{Key, Kind, Punct, Token};

@@ -126,7 +126,7 @@ fn doubled_mark(byte: u8) -> Option<Punct>
 
 /// The mark of one byte.
 #[tactic(auto, unfolding(crate::specs::Reading::mark_of))]
-fn single_mark(byte: u8) -> Option<Punct>
+pub fn single_mark(byte: u8) -> Option<Punct>
     ensures { result ≡ mark_of (byte ∷ []) }
 {
     match byte {

@@ -6,7 +6,7 @@ use crate::bytes::{byte_at, is_blank, is_word_byte};
 
 /// The end of the letters, digits and `_` from a point on.
 #[tactic(auto, using(crate::proofs::Ends::run_ends))]
-pub(crate) fn run_end(bytes: &[u8], from: usize) -> usize
+pub fn run_end(bytes: &[u8], from: usize) -> usize
     requires { from ≤ length bytes.now }
     ensures value { result ≡ run_end bytes.now from }
     ensures from { from ≤ result }
@@ -22,7 +22,7 @@ pub(crate) fn run_end(bytes: &[u8], from: usize) -> usize
 
 /// The end of the spaces and tabs from a point on.
 #[tactic(auto, using(crate::proofs::Ends::blanks_ends))]
-pub(crate) fn blanks_end(bytes: &[u8], from: usize) -> usize
+pub fn blanks_end(bytes: &[u8], from: usize) -> usize
     requires { from ≤ length bytes.now }
     ensures value { result ≡ blanks_end bytes.now from }
     ensures from { from ≤ result }
@@ -74,7 +74,7 @@ fn is_joined(bytes: &[u8], point: usize) -> bool
 
 /// The point of the next `*/`, or the end of the text.
 #[tactic(auto, using(crate::proofs::Ends::comment_ends))]
-pub(crate) fn comment_end(bytes: &[u8], from: usize) -> usize
+pub fn comment_end(bytes: &[u8], from: usize) -> usize
     requires { from ≤ length bytes.now }
     ensures value { result ≡ comment_end bytes.now from }
     ensures from { from ≤ result }

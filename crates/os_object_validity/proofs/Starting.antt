@@ -4,6 +4,7 @@ use Rattle.std.specs.Prelude.{slice_get, ◌==◌, nat_lt}
 use Rattle.std.proofs.lemmas.Bool.{cases_eq, cases_lt, cases_Bool, or_cases, or_parts, or_right, eqb-true, eq-eqb, ne_eqb, both_ways, cond-true, cond-false}
 use Rattle.std.proofs.lemmas.List.{get_or-set_same, get_or-set_other, take_all, length_push, get_or_push, get_or_append_left}
 use Rattle.std.proofs.lemmas.Option.{slice_get_within}
+use Rattle.os_io.proofs.Repeated.{get_or-repeated}
 use Rattle.os_code.specs.declared.parts.Parts.{Parts}
 use Rattle.os_code.specs.declared.unit.CodeUnit.{CodeUnit}
 use Rattle.os_code.specs.IsValid.{HasRegions, IsValid}
@@ -67,15 +68,10 @@ starts-more (one ∷ units) (suc count) place unit is =
     ap (λ (b : Bool). one.start == place || b) (starts-more units count place unit is)
     ∙ or_assoc (one.start == place) (starts_at (take count units) place) (unit.start == place)
 
-false-replicate : (n place : ℕ) → get_or (replicate n false) place false ≡ false
-false-replicate zero place = refl
-false-replicate (suc n) zero = refl
-false-replicate (suc n) (suc place) = false-replicate n place
-
 pub apart-none : (code : Parts) (marks : List Bool) → marks ≡ replicate (length code.instrs) false → length marks ≡ length code.instrs → IsApart code marks 0
 apart-none code marks is counted = record {
   counted = counted;
-  marked = λ place low. ap (λ (ms : List Bool). get_or ms place false) is ∙ false-replicate (length code.instrs) place;
+  marked = λ place low. ap (λ (ms : List Bool). get_or ms place false) is ∙ get_or-repeated (length code.instrs) place false;
   inside = λ number unit low at. absurd (omega arith);
   distinct = λ number other unit one low below at also e. absurd (omega arith);
 }

@@ -1,12 +1,15 @@
 //! Where the first fault of a text stands in its line. The lexer tells the line alone, so it is asked again, of the fronts of the
 //! text that end at a byte of that line where a fault could begin.
 
-ghost use Rattle.std.specs.Prelude.{◌≤◌, length, IfOk, IfSome};
+ghost use Rattle.std.specs.Prelude.{◌≤◌, ◌<◌, length, IfOk, IfSome};
 ghost use Rattle.os_lexer.specs.Limits.{text_limit};
 
 use crate::spot::Spot;
 use os_io::Memory;
-use os_lexer::{Fault, LexError, lex};
+use os_lexer::{
+    Class, Fault, LexError, blanks_end, class_of, comment_end, is_word_byte, lex, run_end,
+    single_mark,
+};
 use std::alloc::Global;
 
 /// How many bytes of a line are tried at most.
@@ -32,120 +35,50 @@ fn says(alloc: Global, text: &[u8], end: usize) -> Result<Answer, Memory>
     }
 }
 
-/// The byte at a point, or a line feed behind the text.
-fn byte_at(text: &[u8], point: usize) -> u8 {
-    match text.get(point) {
-        Some(byte) => *byte,
-        None => b'\n',
-    }
-}
-
-fn is_word(byte: u8) -> bool {
-    byte.is_ascii_alphanumeric() || byte == b'_'
-}
-
-fn is_blank(byte: u8) -> bool {
-    byte == b' ' || byte == b'\t'
-}
-
-/// Where the letters, digits and `_` from a point on end.
-fn word_end(text: &[u8], point: usize) -> usize {
-    let mut end = point;
-    for byte in text.iter().skip(point) {
-        if !is_word(*byte) {
-            return end;
-        }
-        end = end.saturating_add(1);
-    }
-    end
-}
-
-/// Where the blanks from a point on end.
-fn blanks_end(text: &[u8], point: usize) -> usize {
-    let mut end = point;
-    for byte in text.iter().skip(point) {
-        if !is_blank(*byte) {
-            return end;
-        }
-        end = end.saturating_add(1);
-    }
-    end
-}
-
-/// Whether a `*/` stands at some point from one on.
-fn is_closed(text: &[u8], from: usize) -> bool {
-    let mut before = b' ';
-    for byte in text.iter().skip(from) {
-        if before == b'*' && *byte == b'/' {
-            return true;
-        }
-        before = *byte;
-    }
-    false
-}
-
 /// Whether a byte begins a mark, is white or goes on with a word, so that no fault begins there.
 fn is_harmless(byte: u8) -> bool {
-    is_word(byte)
-        || matches!(
-            byte,
-            b' ' | b'\t'
-                | b'\r'
-                | b'\n'
-                | 11
-                | 12
-                | b'<'
-                | b'>'
-                | b'+'
-                | b'-'
-                | b'*'
-                | b'/'
-                | b'%'
-                | b'&'
-                | b'^'
-                | b'|'
-                | b'='
-                | b'!'
-                | b'~'
-                | b'?'
-                | b':'
-                | b';'
-                | b','
-                | b'('
-                | b')'
-                | b'['
-                | b']'
-                | b'{'
-                | b'}'
-        )
+    matches!(class_of(byte), Class::White | Class::Letter | Class::Digit)
+        || single_mark(byte).is_some()
 }
 
 /// Where a fault ends that would begin at a point; none where it could not begin there.
-fn fault_end(text: &[u8], fault: Fault, point: usize) -> Option<usize> {
-    let byte = byte_at(text, point);
-    let next = point.saturating_add(1);
+fn fault_end(text: &[u8], fault: Fault, point: usize) -> Option<usize>
+    requires { point < length text.now }
+{
+    let byte = text[point];
+    let next = point + 1;
     if fault == Fault::OpenComment {
-        let opens = byte == b'/' && byte_at(text, next) == b'*';
-        let behind = point.saturating_add(2);
-        return if opens && !is_closed(text, behind) {
-            Some(behind)
-        } else {
-            None
-        };
+        return open_comment_end(text, point);
     }
     if byte.is_ascii_digit() {
-        let begins = point == 0 || !is_word(byte_at(text, point.saturating_sub(1)));
+        let begins = point == 0 || !is_word_byte(text[point - 1]);
         return if begins {
-            Some(word_end(text, point))
+            Some(run_end(text, point))
         } else {
             None
         };
     }
     if fault == Fault::BadByte && byte == b'#' {
-        return Some(word_end(text, blanks_end(text, next)));
+        return Some(run_end(text, blanks_end(text, next)));
     }
     if fault == Fault::BadByte && !is_harmless(byte) {
         Some(next)
+    } else {
+        None
+    }
+}
+
+/// Where the `/*` at a point ends that no `*/` closes; none where there is none.
+fn open_comment_end(text: &[u8], point: usize) -> Option<usize>
+    requires { point < length text.now }
+{
+    let next = point + 1;
+    if text[point] == b'/'
+        && next < text.len()
+        && text[next] == b'*'
+        && comment_end(text, next + 1) == text.len()
+    {
+        Some(next + 1)
     } else {
         None
     }

@@ -2,6 +2,7 @@
 use Rattle.std.proofs.Common.{◌≡◌, ◌≢◌, ℕ, ◌+◌, ◌<◌, ◌⊎◌, inl, inr, Bool, true, false, List, [], ◌∷◌, zero, suc, ◌≤◌, length, get_or, set, replicate, Some, refl, sym, ap, ◌∙◌, arith, length-set}
 use Rattle.std.proofs.lemmas.Bool.{cases_eq}
 use Rattle.std.proofs.lemmas.List.{get_or-set_same, get_or-set_other, length-replicate}
+use Rattle.os_io.proofs.Repeated.{get_or-repeated}
 use Rattle.os_lexer.specs.declared.token.Kind.{Kind}
 use Rattle.os_lexer.specs.declared.token.Kind.TheVariants as kind
 use Rattle.os_lexer.specs.declared.token.Token.{Token}
@@ -19,16 +20,11 @@ pub record AreMarked (tokens : List Token) (word : ℕ) (marks : List Bool) (her
   pub stands : here ≡ clause_place_at tokens count
   pub few : open_in here ≤ count
 
-pub all_unmarked : (count place : ℕ) → get_or (replicate count false) place false ≡ false
-all_unmarked zero place = refl
-all_unmarked (suc count) zero = refl
-all_unmarked (suc count) (suc place) = all_unmarked count place
-
 -- none were gone over
 pub named-none : (tokens : List Token) (word : ℕ) (marks : List Bool) → marks ≡ replicate (12 + length tokens) false → AreMarked tokens word marks places.Outside 0
 named-none tokens word marks is = record {
   counted = ap length is ∙ length-replicate (12 + length tokens) false;
-  sound = λ name m. let none = all_unmarked (12 + length tokens) name in let these = ap (λ (l : List Bool). get_or l name false) is in cc;
+  sound = λ name m. let none = get_or-repeated (12 + length tokens) name false in let these = ap (λ (l : List Bool). get_or l name false) is in cc;
   complete = λ name place l before e. absurd (omega (arith, before));
   stands = refl;
   few = omega arith;

@@ -2,7 +2,8 @@
 use Rattle.std.proofs.Common.{◌≡◌, ◌≢◌, ℕ, ◌+◌, ◌<◌, ◌⊎◌, inl, inr, Bool, true, false, List, ◌≤◌, length, get_or, set, replicate, Some, sym, ap, ◌∙◌, arith, length-set}
 use Rattle.std.proofs.lemmas.Bool.{cases_eq}
 use Rattle.std.proofs.lemmas.List.{get_or-set_same, get_or-set_other, length-replicate}
-use Rattle.oscheck_warnings.proofs.Named.{kind_within, all_unmarked}
+use Rattle.os_io.proofs.Repeated.{get_or-repeated}
+use Rattle.oscheck_warnings.proofs.Named.{kind_within}
 use Rattle.os_lexer.specs.declared.token.Kind.TheVariants as kind
 use Rattle.os_lexer.specs.declared.token.Token.{Token}
 use Rattle.oscheck_warnings.specs.Warnings.{kind_at, StandsElsewhere, AreRepeated}
@@ -20,7 +21,7 @@ pub record AreMarked (tokens : List Token) (marks : List Bool) (count : ℕ) : T
 pub marks-none : (tokens : List Token) (marks : List Bool) → marks ≡ replicate (length tokens) false → AreMarked tokens marks 0
 marks-none tokens marks is = record {
   counted = ap length is ∙ length-replicate (length tokens) false;
-  sound = λ place m. let none = all_unmarked (length tokens) place in let these = ap (λ (l : List Bool). get_or l place false) is in cc;
+  sound = λ place m. let none = get_or-repeated (length tokens) place false in let these = ap (λ (l : List Bool). get_or l place false) is in cc;
   complete = λ place other l before e k. absurd (omega (arith, before));
 }
 

@@ -2,6 +2,7 @@ ghost use Rattle.std.specs.Prelude.{◌≡◌, ◌++◌, [], take};
 ghost use Rattle.std.specs.Fmt.{decimal};
 ghost use Rattle.osrun_core_jobs.specs.LineRoom.{line_room};
 
+use itoa::Buffer;
 use std::marker::Model;
 
 /// How many bytes a line may have.
@@ -51,10 +52,7 @@ impl Line {
     pub fn number(&mut self, number: u64)
         ensures { self.new ≡ take line_room (self.old ++ decimal number) }
     {
-        if number >= 10 {
-            self.number(number / 10);
-        }
-        self.text(&[b'0' + (number % 10) as u8]);
+        self.text(Buffer::new().format(number).as_bytes());
     }
 
     /// The bytes of the line.

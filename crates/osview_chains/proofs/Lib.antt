@@ -1,4 +1,3 @@
 pub mod Feeding
 pub mod Passing
 pub mod Raising
-pub mod Repeated

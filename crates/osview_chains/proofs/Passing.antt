@@ -3,6 +3,7 @@ use Rattle.std.proofs.Common.{◌≡◌, ◌∙◌, ◌⊎◌, inl, inr, ℕ, �
 use Rattle.std.specs.Prelude.{IsSome, false, is_some, true}
 use Rattle.std.proofs.lemmas.Bool.{cases_lt}
 use Rattle.std.proofs.lemmas.List.{length-replicate}
+use Rattle.os_io.proofs.Repeated.{get_or-repeated}
 use Rattle.flow_core_laws.specs.IsSound.{IsSound}
 use Rattle.flow_core_laws.specs.Plans.{frame_at, plan_reads}
 use Rattle.flow_core_laws.specs.declared.plan.Plan.{Plan}
@@ -11,7 +12,6 @@ use Rattle.osview_chains.specs.Behind.{Feeds, HasGoneThrough, IsOfChain, Raises,
 use Rattle.osview_chains.specs.Chains.{IsChain, IsChainFrom, IsLongest, chain_steps, steps_at}
 use Rattle.osview_outcomes.specs.Order.{IsInOrder, WaitsFor}
 use Rattle.osview_chains.proofs.Feeding.{fed_if_waits, waits_if_fed}
-use Rattle.osview_chains.proofs.Repeated.{get_or-repeated}
 
 -- the first of a chain ran
 first_ran : (reads : ℕ → List Source) (steps : List (Option ℕ)) (a : ℕ) (rest : List ℕ) → IsChainFrom reads steps a rest → IsSome (get_or steps a None)

@@ -4,6 +4,7 @@ ghost use Rattle.std.specs.Fmt.{decimal};
 ghost use Rattle.osview_steps.specs.Lines.{hundredths, tenths};
 ghost use Rattle.osview_steps.specs.Tallies.{mean, ratio, share};
 
+use itoa::Buffer;
 use os_io::Memory;
 use osview_text::Text;
 
@@ -11,11 +12,7 @@ use osview_text::Text;
 pub(crate) fn add_number(told: &mut Text, number: u128) -> Result<(), Memory>
     ensures { OnOk result (told.new ≡ told.old ++ decimal number) }
 {
-    if number < 10 {
-        return told.number(number as u64);
-    }
-    add_number(told, number / 10)?;
-    told.number((number % 10) as u64)
+    told.add(Buffer::new().format(number).as_bytes())
 }
 
 /// Adds bytes, a number, and bytes behind it.

@@ -1,6 +1,7 @@
-ghost use Rattle.std.specs.Prelude.{◌≡◌, ◌++◌, ◌∷◌, [], OnOk};
+ghost use Rattle.std.specs.Prelude.{◌≡◌, ◌++◌, [], OnOk};
 ghost use Rattle.std.specs.Fmt.{decimal, signed_decimal};
 
+use itoa::Buffer;
 use os_io::Memory;
 use std::alloc::Global;
 use std::marker::Model;
@@ -29,14 +30,6 @@ impl Text {
         }
     }
 
-    /// Adds a byte.
-    fn push(&mut self, byte: u8) -> Result<(), Memory>
-        ensures { OnOk result (self.new ≡ self.old ++ byte ∷ []) }
-    {
-        self.bytes.push(byte)?;
-        Ok(())
-    }
-
     /// Adds bytes.
     pub fn add(&mut self, bytes: &[u8]) -> Result<(), Memory>
         ensures { OnOk result (self.new ≡ self.old ++ bytes.now) }
@@ -49,11 +42,7 @@ impl Text {
     pub fn number(&mut self, number: u64) -> Result<(), Memory>
         ensures { OnOk result (self.new ≡ self.old ++ decimal number) }
     {
-        if number < 10 {
-            return self.push(b'0' + number as u8);
-        }
-        self.number(number / 10)?;
-        self.push(b'0' + (number % 10) as u8)
+        self.add(Buffer::new().format(number).as_bytes())
     }
 
     /// Adds bytes and a number behind them.
@@ -69,7 +58,7 @@ impl Text {
         ensures { OnOk result (self.new ≡ self.old ++ signed_decimal number) }
     {
         if number < 0 {
-            self.push(b'-')?;
+            self.add(b"-")?;
         }
         self.number(u64::from(number.unsigned_abs()))
     }

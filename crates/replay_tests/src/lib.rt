@@ -6,8 +6,6 @@
 #[cfg(test)]
 mod answers;
 #[cfg(test)]
-mod lasts;
-#[cfg(test)]
 mod plans;
 #[cfg(test)]
 mod workers;

@@ -4,10 +4,9 @@ ghost use Rattle.flow_core_laws.specs.IsSound.{IsSound};
 ghost use Rattle.flow_core_laws.specs.Limits.{workers_limit};
 ghost use Rattle.stream_match_layouts.specs.Layout.{IsLayout};
 
-use crate::lasts::Lasts;
 use flow_core::{Activation, Claim, Plan};
 use flow_core_laws::WORKERS_LIMIT;
-use lawful_layouts::lawful_layout;
+use lawful_layouts::{Lasts, lawful_layout};
 use os_io::{List, Memory};
 use std::alloc::Global;
 use std::test::Fail;

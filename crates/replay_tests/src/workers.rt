@@ -3,9 +3,9 @@ ghost use Rattle.std.specs.Prelude.{◌≤◌, IfOk};
 ghost use Rattle.flow_core_laws.specs.IsSound.{IsSound};
 ghost use Rattle.flow_core_laws.specs.Limits.{workers_limit};
 
-use crate::lasts::Lasts;
 use crate::plans::{activation, plan_of, replayed};
 use flow_core::{Activation, Claim, Ends, Plan};
+use lawful_layouts::Lasts;
 use os_io::{List, Memory};
 use std::alloc::Global;
 use std::sync::atomic::{AtomicU32, Ordering};

@@ -1,5 +1,3 @@
--- Bodies that tests of runs have.
-pub mod Lasts
 -- The seat of a table that tests step on.
 pub mod OneSeat
 -- What a hand is told by the lines that it asks.

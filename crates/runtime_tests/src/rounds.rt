@@ -4,14 +4,13 @@ ghost use Rattle.std.specs.Prelude.{◌≤◌, IfOk};
 ghost use Rattle.flow_core_laws.specs.IsSound.{IsSound};
 ghost use Rattle.flow_core_laws.specs.Limits.{workers_limit};
 
-mod lasts;
 mod logs;
 mod stealing;
 
 use crate::activations::{activation_of, laid_out, plan_over};
-use crate::rounds::lasts::Lasts;
 use flow_core::{Activation, Claim, Elem, Ends, Plan, TaskEnd, execute_one};
 use flow_core_laws::WORKERS_LIMIT;
+use lawful_layouts::Lasts;
 use os_io::Memory;
 use std::alloc::Global;
 use std::process::Abort;

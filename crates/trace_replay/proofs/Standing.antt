@@ -22,7 +22,7 @@ use Rattle.flow_core.proofs.Running.{IsRun-opening, no_end as no_end_yet}
 use Rattle.trace_replay_laws.specs.Orders.{after, after_all, IsLawful}
 use Rattle.trace_replay_laws.specs.Lists.{number_in, HaveNoRepeat, Taken, frames_of, taken_from, IsOrderOfHeads, head_after}
 use Rattle.trace_replay_laws.specs.Answers.{plan_after, AreFrames}
-use Rattle.trace_replay_laws.proofs.Lawful.{IsIn, none_at_start, outcome_after, ran_before, lawful_more, after_all-more}
+use Rattle.trace_replay_laws.proofs.Lawful.{IsIn, outcome_after, ran_before, lawful_more, after_all-more}
 use Rattle.trace_replay_laws.proofs.Taking.{behind as stands_behind, taken-more, taken-more_elsewhere, frames-append, frame_taken, taken_stands, list_of}
 use Rattle.trace_replay.specs.Owners.{AreOwners}
 use Rattle.trace_replay.specs.Standing.{Stands, HeadWaits, AreQueued}
@@ -37,7 +37,7 @@ stands_first plan outcome lists places board counted cells ends len zeros = reco
   at_places = λ k lt. zeros k (omega (arith, len, lt));
   counted = counted;
   shows = (IsRun-opening plan (plan_meaning plan outcome) board counted cells ends).shows;
-  ended = λ f. ap is_some (ap (λ (xs : List (Option TaskEnd)). end_at xs f) ends ∙ no_end_yet plan.frames f) ∙ sym (ap is_some (none_at_start {O = Outcome} (length plan.frames) f));
+  ended = λ f. ap is_some (ap (λ (xs : List (Option TaskEnd)). end_at xs f) ends ∙ no_end_yet plan.frames f) ∙ sym (ap is_some (get_or-repeated {A = Option Outcome} (length plan.frames) f None));
 }
 
 -- a head behind an order isn't one of its numbers

@@ -1,10 +1,11 @@
 -- Lawful orders, and the outcomes that are there behind them.
-use Rattle.std.proofs.Common.{◌≡◌, ◌≢◌, ℕ, zero, suc, ◌<◌, ◌≤◌, List, [], ◌∷◌, ◌++◌, Option, Some, None, length, get_or, set, replicate, refl, sym, ap, ◌∙◌, subst, ◌⊎◌, inl, inr, arith}
+use Rattle.std.proofs.Common.{◌≡◌, ◌≢◌, ℕ, zero, suc, ◌<◌, ◌≤◌, List, [], ◌∷◌, ◌++◌, Option, Some, None, length, set, replicate, refl, sym, ap, ◌∙◌, subst, ◌⊎◌, inl, inr, arith}
 use Rattle.std.specs.Prelude.{slice_get}
 use Rattle.std.specs.Option.{option_map, option_or}
 use Rattle.std.proofs.lemmas.Bool.{cases_lt, cases_eq}
 use Rattle.std.proofs.lemmas.Option.{same_Some}
 use Rattle.std.proofs.lemmas.List.{get_or-set_same, get_or-set_other, length-set, length-replicate, same_lists, get_or_default, get_or_past}
+use Rattle.os_io.proofs.Repeated.{get_or-repeated}
 use Rattle.flow_core_laws.specs.Outcome.{outcome_at}
 use Rattle.flow_core_laws.specs.Round.{inputs_in, IsEnabled, after_round, meaning}
 use Rattle.flow_core_laws.specs.Laws.{IsKept, Reached, start, fire}
@@ -18,11 +19,6 @@ IsIn xs x = (i : ℕ) × (slice_get xs i ≡ Some x)
 
 pub in_tail : (y x : ℕ) (xs : List ℕ) → IsIn xs x → IsIn (y ∷ xs) x
 in_tail y x xs (i, h) = (suc i, h)
-
-pub none_at_start : {O : Type 0} (count a : ℕ) → get_or {A = Option O} (replicate count None) a None ≡ None
-none_at_start zero a = refl
-none_at_start (suc n) zero = refl
-none_at_start (suc n) (suc a) = none_at_start n a
 
 module _ {S V O : Type 0} (element : List (Option O) → S → Option V) (reads : ℕ → List S) (body : ℕ → List V → O) where
   -- what an enabled activation gets
@@ -84,7 +80,7 @@ module _ {S V O : Type 0} (element : List (Option O) → S → Option V) (reads 
   ran_before count order a o l h = by (from_order count (replicate count None) order a o l h)
     where
       by : (outcome_at {O = O} (replicate count None) a ≡ Some o) ⊎ IsIn order a → IsIn order a
-      by (inl now) = let n : ◌≡◌ {A = Option O} None (Some o) = sym (none_at_start count a) ∙ now in absurd (cc)
+      by (inl now) = let n : ◌≡◌ {A = Option O} None (Some o) = sym (get_or-repeated {A = Option O} count a None) ∙ now in absurd (cc)
       by (inr there) = there
 
   -- a lawful order in two parts

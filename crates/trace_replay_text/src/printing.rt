@@ -1,8 +1,8 @@
 ghost use Rattle.std.specs.Prelude.{◌≡◌, ◌++◌, IfOk};
-ghost use Rattle.std.specs.Fmt.{decimal};
 ghost use Rattle.os_io.specs.Lines.{field};
 ghost use Rattle.trace_replay_text.specs.Trace.{trace, worker_line};
 
+use itoa::Buffer;
 use os_io::{List, Memory};
 use std::alloc::Global;
 
@@ -36,18 +36,6 @@ fn print_field(text: &mut Vec<u8>, number: u64) -> Result<(), Memory>
     ensures { IfOk result (λ _. text.new.items ≡ text.old.items ++ field number) }
 {
     text.push(b' ')?;
-    print_number(text, number)
-}
-
-/// Adds a number in decimal.
-fn print_number(text: &mut Vec<u8>, number: u64) -> Result<(), Memory>
-    ensures { IfOk result (λ _. text.new.items ≡ text.old.items ++ decimal number) }
-{
-    if number < 10 {
-        text.push(b'0' + number as u8)?;
-        return Ok(());
-    }
-    print_number(text, number / 10)?;
-    text.push(b'0' + (number % 10) as u8)?;
+    text.extend_from_slice(Buffer::new().format(number).as_bytes())?;
     Ok(())
 }

@@ -1,9 +1,9 @@
 //! What one worker opens others run too.
 ghost use Rattle.flow_core_laws.specs.IsSound.{IsSound};
 
-use crate::rounds::lasts::Lasts;
 use crate::rounds::{CASES, plan_of_case};
 use flow_core::Plan;
+use lawful_layouts::Lasts;
 use os_io::Memory;
 use std::alloc::Global;
 use std::sync::atomic::{AtomicU32, Ordering};

@@ -1,7 +1,8 @@
 use Rattle.std.proofs.Common.{◌∙◌, [], Bool, List, ap, false, length, replicate, subst, sym, ℕ}
+use Rattle.os_io.proofs.Repeated.{get_or-repeated}
 use Rattle.stream_match_layouts.specs.Spans.{frame_count}
 use Rattle.epoch_run_ready.specs.Waiting.{AreMissing}
-use Rattle.epoch_run_ready.proofs.Marks.{mark_same, no_mark}
+use Rattle.epoch_run_ready.proofs.Marks.{mark_same}
 use Rattle.epoch_run_ready.proofs.Passing.{unmarked_all}
 use Rattle.epoch_run_ready.proofs.ready.chosen.Goals as goal
 
@@ -21,5 +22,5 @@ returns-then-count-eq0 c =
     record {
       waits = none;
       are_marked = mark_same layout readers none;
-      others = λ ascend. c.in_ok-frames.ensures ∙ sym (unmarked_all none readers (no_mark n));
+      others = λ ascend. c.in_ok-frames.ensures ∙ sym (unmarked_all none readers (λ a. get_or-repeated n a false));
     }

@@ -2,10 +2,10 @@ use Rattle.std.proofs.Common.{◌≡◌, ◌∙◌, ◌<◌, ℕ, List, None, ap
 use Rattle.std.specs.Prelude.{fold}
 use Rattle.std.proofs.lemmas.List.{length-replicate, length-set, take_all}
 use Rattle.std.proofs.lemmas.List.Sums.{fold_more}
+use Rattle.os_io.proofs.Repeated.{get_or-repeated}
 use Rattle.osview_steps.specs.Counting.{IsSmall, nothing_counted}
 use Rattle.osview_steps.specs.declared.runs.TaskRun.{TaskRun}
 use Rattle.osview_steps.specs.declared.tally.Tally.{Tally}
-use Rattle.osview_chains.proofs.Repeated.{get_or-repeated}
 use Rattle.osview_steps.proofs.Counting.{at_task, is_tally, small_step, step}
 use Rattle.osview_steps.proofs.tally.tallies.Goals as goal
 

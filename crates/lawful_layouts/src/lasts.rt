@@ -1,6 +1,6 @@
 ghost use Rattle.std.specs.Prelude.{◌≡◌, ⊤, length};
 ghost use Rattle.flow_core_laws.specs.Plans.{frame_at};
-ghost use Rattle.runtime_tests.specs.Lasts.{end_of, last_of, last_outcome};
+ghost use Rattle.lawful_layouts.specs.Lasts.{end_of, last_of, last_outcome};
 
 use flow_core::{Bodies, Plan, TaskEnd};
 use os_io::Memory;
@@ -9,9 +9,9 @@ use std::alloc::Global;
 /// Bodies that write their last input, or 41 where they have none, to each output. Where some fail,
 /// each fifth traps and each fifth runs over its budget.
 #[derive(Clone, Copy, Drop)]
-pub(crate) struct Lasts<'a> {
-    pub(crate) plan: &'a Plan,
-    pub(crate) some_fail: bool,
+pub struct Lasts<'a> {
+    pub plan: &'a Plan,
+    pub some_fail: bool,
 }
 
 impl<'a> Bodies for Lasts<'a> {

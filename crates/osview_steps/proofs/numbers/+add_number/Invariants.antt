@@ -1,4 +1,0 @@
-use Rattle.osview_steps.proofs.numbers.+add_number.Given as goal
-
-abbrev pub decreases-add_number : goal.decreases-add_number
-decreases-add_number l = l.number

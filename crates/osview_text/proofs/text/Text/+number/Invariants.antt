@@ -1,4 +1,0 @@
-use Rattle.osview_text.proofs.text.Text.+number.Given as goal
-
-abbrev pub decreases-number : goal.decreases-number
-decreases-number l = l.number

@@ -1,2 +1,0 @@
--- Bodies that tests of replays have.
-pub mod Lasts
