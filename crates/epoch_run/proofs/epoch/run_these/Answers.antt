@@ -31,7 +31,7 @@ take-requires-clause-ends_fit g c =
     let stands = subst (λ (ss : List Stretch). StandsForEpoch c.in_ok-epoch.epoch.plan (all_of c.args.bodies.now) c.args.input.now c.args.readers c.args.frames.now (map kept_of c.args.held.now.kept.items) (flat_map stretch_places ss)) (sym c.as_slice-2.ensures) (subst (λ (rs : List ℕ). StandsForEpoch c.in_ok-epoch.epoch.plan (all_of c.args.bodies.now) c.args.input.now rs c.args.frames.now (map kept_of c.args.held.now.kept.items) (flat_map stretch_places c.in_ok-epoch.epoch.leaves)) c.as_slice.ensures c.in_ok-epoch.ensures.stands) in
     ends_fit c.args.layout.now o.whole (parts_of c.args.bodies.now.code.now) (all_of c.args.bodies.now) c.args.input.now c.args.bodies.now.budgets.task
     (listed c.args.held.now) o.stands o.laid o.lawful c.args.readers c.args.frames.now c.requires.readers c.requires.frames
-    c.later_activations_change_nothing.ensures c.run_in_epochs.ensures.begins c.in_ok-epoch.epoch.plan (flat_map stretch_places c.as_slice-2.result.now) stands c.run_in_epochs.ensures.ends c.in_ok-ends.ends' c.in_ok-ends.ensures.ends c.in_ok-ends.ensures.output
+    c.later_activations_change_nothing.ensures c.run_in_epochs.ensures.begins c.in_ok-epoch.epoch.plan (flat_map stretch_places c.as_slice-2.result.now) stands c.run_in_epochs.ensures.ends c.in_ok-ends.ends c.in_ok-ends.ensures.ends c.in_ok-ends.ensures.output
 
 pub take-requires-clause-values_fit : goal.take-requires-clause-values_fit
 take-requires-clause-values_fit g c =
@@ -39,7 +39,7 @@ take-requires-clause-values_fit g c =
     let stands = subst (λ (ss : List Stretch). StandsForEpoch c.in_ok-epoch.epoch.plan (all_of c.args.bodies.now) c.args.input.now c.args.readers c.args.frames.now (map kept_of c.args.held.now.kept.items) (flat_map stretch_places ss)) (sym c.as_slice-2.ensures) (subst (λ (rs : List ℕ). StandsForEpoch c.in_ok-epoch.epoch.plan (all_of c.args.bodies.now) c.args.input.now rs c.args.frames.now (map kept_of c.args.held.now.kept.items) (flat_map stretch_places c.in_ok-epoch.epoch.leaves)) c.as_slice.ensures c.in_ok-epoch.ensures.stands) in
     values_fit c.args.layout.now o.whole (parts_of c.args.bodies.now.code.now) (all_of c.args.bodies.now) c.args.input.now c.args.bodies.now.budgets.task
     (listed c.args.held.now) o.stands o.laid o.lawful c.args.readers c.args.frames.now c.requires.readers c.requires.frames
-    c.later_activations_change_nothing.ensures c.run_in_epochs.ensures.begins c.in_ok-epoch.epoch.plan (flat_map stretch_places c.as_slice-2.result.now) stands c.run_in_epochs.ensures.ends c.in_ok-ends.ends' c.in_ok-ends.ensures.ends c.in_ok-ends.ensures.output
+    c.later_activations_change_nothing.ensures c.run_in_epochs.ensures.begins c.in_ok-epoch.epoch.plan (flat_map stretch_places c.as_slice-2.result.now) stands c.run_in_epochs.ensures.ends c.in_ok-ends.ends c.in_ok-ends.ensures.ends c.in_ok-ends.ensures.output
 
 pub take-requires-clause-more : goal.take-requires-clause-more
 take-requires-clause-more g c =
@@ -77,5 +77,5 @@ returns g c =
     let stands = subst (λ (ss : List Stretch). StandsForEpoch c.in_ok-epoch.epoch.plan (all_of c.args.bodies.now) c.args.input.now c.args.readers c.args.frames.now (map kept_of c.args.held.now.kept.items) (flat_map stretch_places ss)) (sym c.as_slice-2.ensures) (subst (λ (rs : List ℕ). StandsForEpoch c.in_ok-epoch.epoch.plan (all_of c.args.bodies.now) c.args.input.now rs c.args.frames.now (map kept_of c.args.held.now.kept.items) (flat_map stretch_places c.in_ok-epoch.epoch.leaves)) c.as_slice.ensures c.in_ok-epoch.ensures.stands) in
     held_after c.args.layout.now o.whole (parts_of c.args.bodies.now.code.now) (all_of c.args.bodies.now) c.args.input.now c.args.bodies.now.budgets.task
     (listed c.args.held.now) o.stands o.laid o.lawful c.args.readers c.args.frames.now c.requires.readers c.requires.frames
-    c.later_activations_change_nothing.ensures c.run_in_epochs.ensures.begins c.in_ok-epoch.epoch.plan (flat_map stretch_places c.as_slice-2.result.now) stands c.run_in_epochs.ensures.ends c.in_ok-ends.ends' c.in_ok-ends.ensures.ends c.in_ok-ends.ensures.output
+    c.later_activations_change_nothing.ensures c.run_in_epochs.ensures.begins c.in_ok-epoch.epoch.plan (flat_map stretch_places c.as_slice-2.result.now) stands c.run_in_epochs.ensures.ends c.in_ok-ends.ends c.in_ok-ends.ensures.ends c.in_ok-ends.ensures.output
     c.take.new.self c.in_ok-take.ensures.ends c.in_ok-take.ensures.output (c.in_ok-take.ensures.kept (all_of c.args.bodies.now) o.laid) c.in_ok-take.ensures.without_end
