@@ -20,7 +20,7 @@ use os_io::Memory;
 use std::alloc::Global;
 use std::process::Abort;
 use std::test::Fail;
-use table::{CASES, Case, Run, SET};
+use table::{CASES, Case, SET, TableRun};
 
 /// The run of a task that is done, after `steps` steps, and that took no turn.
 fn done(steps: u64) -> Ran {
@@ -53,7 +53,7 @@ fn taking(turns: u64, ran: Ran) -> Ran {
 }
 
 /// Whether a body comes to what each of its runs says, where the last of them was made before with the same scratch.
-fn comes_to(rt: &(impl AllocGlobal + Abort), body: &[Instr], runs: &[Run]) -> Result<(), Fail>
+fn comes_to(rt: &(impl AllocGlobal + Abort), body: &[Instr], runs: &[TableRun]) -> Result<(), Fail>
     requires { is_valid (alone body.now) ≡ true }
 {
     assert!(rt; body.len() <= 1000);

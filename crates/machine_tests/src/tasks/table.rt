@@ -9,9 +9,9 @@ use os_code::Instr::{
 use os_code::{Binary, Instr};
 
 /// The captured values, the budget, the end, how many steps it took, and the outputs.
-pub(crate) type Run = ([i32; 2], u64, TaskEnd, u64, [i32; 3]);
+pub(crate) type TableRun = ([i32; 2], u64, TaskEnd, u64, [i32; 3]);
 /// A body, and what it comes to.
-pub(crate) type Case<'a> = (&'a [Instr], &'a [Run]);
+pub(crate) type Case<'a> = (&'a [Instr], &'a [TableRun]);
 
 /// Stores into the window of two outputs.
 pub(crate) const SET: Instr = ItemStore { item: 1, line: 5 };
