@@ -7,7 +7,6 @@ use Rattle.stream_match_layouts.specs.Offsets.{offset_by}
 use Rattle.stream_match_layouts.specs.declared.offsets.Offsets.{Offsets}
 use Rattle.stream_match_layouts.proofs.OffsetsBehind.{behind-more, offset-fits, offset_by-alike}
 use Rattle.epoch_run_portions.specs.Positions.{HavePassed}
-use Rattle.epoch_run_portions.specs.declared.positions.Positions.{Positions}
 use Rattle.epoch_run_portions.proofs.Passing.{HaveAdded, added_next, alike_fits, all_added, cursors_at, none_added, same_streams, spans_added, stream_exists}
 use Rattle.epoch_run_portions.proofs.positions.Positions.pass.Goals as goal
 
