@@ -13,7 +13,7 @@
 //!
 //! Where nobody waits, and by several workers bodies are short, `run_epochs` goes on in control order instead (`epoch_run_in_order`): activations
 //! run one after the other, with no plan, until one of them doesn't find there what it reads. What ran is then held as after an epoch. Several
-//! workers portion such a run out: each has a control program of its own create the activations up to the end of its portion, and runs those from
+//! workers portion out such a run: each has a control program of its own create the activations up to the end of its portion, and runs those from
 //! the portion's begin on (`epoch_run_portions`).
 #![tactic(auto)]
 

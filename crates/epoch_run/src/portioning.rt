@@ -75,7 +75,7 @@ pub(crate) fn portion_out<'c, R: Threads + Sync>(
     Ok(all)
 }
 
-/// Whether `workers` workers are to try to portion a run out behind `first` activations: bodies are long enough, and at least twice as many activations
+/// Whether `workers` workers are to try to portion out a run behind `first` activations: bodies are long enough, and at least twice as many activations
 /// have run as at the last try. So what all tries pass together grows with the number of activations, and not with its square.
 fn is_worth_a_try(standing: &Standing<'_>, first: u32, workers: u32) -> bool {
     standing.held.pace.is_worth_portions(workers) && first >= standing.tried.saturating_mul(2)

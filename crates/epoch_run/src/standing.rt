@@ -49,7 +49,7 @@ pub(crate) struct Standing<'c> {
     pub layout: Layout,
     /// How the activations that were run ended, what they wrote to the output, and what of their elements may still be read.
     pub held: Held,
-    /// How many activations had run when several workers last tried to portion the run out.
+    /// How many activations had run when several workers last tried to portion out the run.
     pub(crate) tried: u32,
 }
 
