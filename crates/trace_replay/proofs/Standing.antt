@@ -19,6 +19,7 @@ use Rattle.flow_core.specs.Waits.{OpensMore}
 use Rattle.flow_core.specs.Counted.{IsCounted}
 use Rattle.flow_core.specs.Shows.{Shows, end_at}
 use Rattle.flow_core.proofs.Running.{IsRun-opening, no_end as no_end_yet}
+use Rattle.os_io.proofs.Repeated.{get_or-repeated}
 use Rattle.trace_replay_laws.specs.Orders.{after, after_all, IsLawful}
 use Rattle.trace_replay_laws.specs.Lists.{number_in, HaveNoRepeat, Taken, frames_of, taken_from, IsOrderOfHeads, head_after}
 use Rattle.trace_replay_laws.specs.Answers.{plan_after, AreFrames}
