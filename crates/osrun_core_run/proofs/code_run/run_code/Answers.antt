@@ -1,4 +1,4 @@
-use Rattle.std.proofs.Common.{length, refl}
+use Rattle.std.proofs.Common.{◌∙◌, length, refl}
 use Rattle.os_code.specs.Codes.{parts_of}
 use Rattle.os_code.specs.Outcomes.{main_control}
 use Rattle.osrun_core_run.proofs.CodeRuns.{run_of_ends}
@@ -15,5 +15,5 @@ returns g c =
     let made_of = c.in_ok-run.ensures in
     record {
       run = run_of_ends c.args.terms.task_budget c.args.terms.control_budget code input (main_control code (length input) c.args.terms.control_budget)
-          refl is.fit is.lawful c.in_ok-run.run _ _ is.whole is.layout is.input is.ends made_of.output made_of.layout made_of.ends (made_of.control ∙ is.control);
+          refl is.fit is.lawful c.in_ok-run.run' _ _ is.whole is.layout is.input is.ends made_of.output made_of.layout made_of.ends (made_of.control ∙ is.control);
     }

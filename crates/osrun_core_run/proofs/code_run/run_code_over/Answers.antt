@@ -14,7 +14,7 @@ returns g c =
     let input = c.deref.result.now in
     let is = c.in_ok-layout.ensures in
     let made_of = c.in_ok-run.ensures in
-    let run = c.in_ok-run.run in
+    let run = c.in_ok-run.run' in
     record {
       run = subst (λ bytes. IsRunOfCode c.args.terms.task_budget c.args.terms.control_budget code bytes run.output.items run.layout run.ends run.control) c.deref.ensures.value
           (run_of_ends c.args.terms.task_budget c.args.terms.control_budget code input (main_control code (length input) c.args.terms.control_budget)

@@ -11,5 +11,5 @@ returns-clause-run g c =
     let planned = c.in_ok-planned.ensures in
     let made_of = c.in_ok-run.ensures in
     run_of_ends c.args.terms.task_budget c.args.terms.control_budget (parts_of c.args.code.now) input c.in_ok-planned.planned.control
-    planned.made_is planned.fit planned.lawful c.in_ok-run.run _ _ planned.whole planned.laid planned.over
+    planned.made_is planned.fit planned.lawful c.in_ok-run.run' _ _ planned.whole planned.laid planned.over
     (c.in_ok-logged.ensures.meaning input planned.stands) made_of.output made_of.layout made_of.ends made_of.control
