@@ -7,7 +7,7 @@ use Rattle.osview_answer.proofs.source.read_run.Goals as goal
 
 pub read_source-requires : goal.read_source-requires
 read_source-requires g c =
-    may_open_first (g.F.Files.may c.args.files.now) (g.F.Files.opens c.args.files.now) (program_file c.args.job.now.program.now) (input_file c.args.job.now.input.now ∷ []) (g.met.F.Files.may_at_last c.args.files.now) c.requires.may
+    may_open_first (g.F.Files.may c.args.files.now) (g.F.Files.opens c.args.files.now) (program_file c.args.job.now.program.now) (input_file c.args.job.now.input.now ∷ []) (g.met.F.Files.may_at_last c.args.files.now) c.requires
 
 pub returns-in_err-source : goal.returns-in_err-source
 returns-in_err-source g c =
@@ -18,7 +18,7 @@ returns-in_err-source g c =
 pub load-requires : goal.load-requires
 load-requires g c =
     let was = c.in_ok-source.ensures.0 in
-    let allowed = may_open_second (g.F.Files.may c.args.files.now) (g.F.Files.opens c.args.files.now) (program_file c.args.job.now.program.now) (input_file c.args.job.now.input.now) [] (g.met.F.Files.may_at_last c.args.files.now) c.requires.may in
+    let allowed = may_open_second (g.F.Files.may c.args.files.now) (g.F.Files.opens c.args.files.now) (program_file c.args.job.now.program.now) (input_file c.args.job.now.input.now) [] (g.met.F.Files.may_at_last c.args.files.now) c.requires in
     rw (was.may_kept, was.opened) allowed
 
 pub returns-in_err-input : goal.returns-in_err-input
