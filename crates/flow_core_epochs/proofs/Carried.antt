@@ -24,11 +24,11 @@ use Rattle.flow_core_laws.proofs.Sources.{find_passes}
 use Rattle.flow_core_laws.proofs.Rounds.{outcome_at_past, length-meaning}
 use Rattle.flow_core_laws.proofs.Elements.{element_kept}
 use Rattle.flow_core_laws.proofs.Windows.{producer_of, is_window, window_at, written as window_writes}
-use Rattle.flow_core_epochs.specs.Epoch.{number_among, open_in, written_places, read_from, is_readable, ReadNoOutput, Kept, is_at, value_kept, elements_at, carried_over, IsKeptFor, IsCarried, IsOutside, PlacesDiffer, epoch_meaning}
+use Rattle.flow_core_epochs.specs.Epoch.{number_among, open_in, written_places, read_from, is_readable, ReadNoOutput, Kept, is_at, value_kept, elements_at, carried_over, IsKeptFor, IsCarried, IsOutside, IsPartOf, PlacesDiffer, epoch_meaning}
 use Rattle.flow_core_epochs.proofs.Members.{Has, of_append, in_left, in_right, of_filter, in_filter, of_flat_map, in_flat_map, of_range, in_range, has_tail, in_map}
-use Rattle.flow_core_epochs.proofs.Prefixes.{producer_more, element_more, prefix_extends}
+use Rattle.flow_core_epochs.proofs.Prefixes.{producer_more, element_more}
 use Rattle.flow_core_epochs.proofs.Frames.{numbers_back}
-use Rattle.flow_core_epochs.proofs.Epochs.{HasEpoch, over_other, over_is_whole, output_outcome}
+use Rattle.flow_core_epochs.proofs.Epochs.{HasEpoch, earlier_extends, over_other, over_is_whole, output_outcome}
 use Rattle.flow_core_epochs.proofs.Written.{has_window, window_activation, written_in, is_written_test}
 use Rattle.flow_core_epochs.proofs.Apart.{Apart, apart_filter, apart_append, leaving_apart, SamePlace, apart_elements}
 use Rattle.flow_core_epochs.proofs.Leaving.{sink_leaves}
@@ -147,11 +147,11 @@ outcome_exists activations input body a o h = by_order (cases_lt a (length activ
     by_order (inr ge) = let l = length-meaning stream_element (stream_reads activations input) (poisoning body) (length activations) in let n = outcome_at_past (stream_meaning activations input body) a (omega (arith, l)) in absurd (cc)
 
 -- an element that is there was there with fewer activations, if they gave it
-pub element_less : (activations more : List Activation) (input : List ℕ) (body : ℕ → List ℤ → Outcome) (p : Place) (v : Elem) → p.stream ≢ 0 → stream_element (stream_meaning activations input body) (stream_source (activations ++ more) input p) ≡ Some v → stream_element (stream_meaning activations input body) (stream_source activations input p) ≡ Some v
-element_less activations more input body p v other h =
-    let (w, is, out) = there_produced (activations ++ more) input (stream_meaning activations input body) p v other h in
-    let (o, ended) = output_outcome own_number (stream_meaning activations input body) w.activation (w.offset + (p.position - w.first)) v out in
-    ap (stream_element (stream_meaning activations input body)) (produced_by activations input p w other (producer_less activations more p.stream p.position w is (outcome_exists activations input body w.activation o ended))) ∙ out
+pub element_less : (activations more : List Activation) (input : List ℕ) (body : ℕ → List ℤ → Outcome) (state : State) (p : Place) (v : Elem) → IsPartOf state activations input body → p.stream ≢ 0 → stream_element state (stream_source (activations ++ more) input p) ≡ Some v → stream_element state (stream_source activations input p) ≡ Some v
+element_less activations more input body state p v part other h =
+    let (w, is, out) = there_produced (activations ++ more) input state p v other h in
+    let (o, ended) = output_outcome own_number state w.activation (w.offset + (p.position - w.first)) v out in
+    ap (stream_element state) (produced_by activations input p w other (producer_less activations more p.stream p.position w is (outcome_exists activations input body w.activation o (part.agrees w.activation o ended)))) ∙ out
 
 -- the elements at places
 pub in_elements : (g : Place → Option Elem) (places : List Place) (p : Place) (v : Elem) → Has places p → g p ≡ Some v → Has (elements_at places (map g places)) (record { place = p; value = v })
@@ -208,15 +208,12 @@ nothing_at_first input body = record { are_there = λ i d lt. absurd (omega arit
         absurd (omega arith)
 
 -- what is carried serves the next epoch
-pub serves_next : (activations new : List Activation) (input : List ℕ) (body : ℕ → List ℤ → Outcome) (kept : List Kept) → ReadNoOutput (activations ++ new) → IsCarried activations input (stream_meaning activations input body) kept → IsKeptFor (activations ++ new) input (stream_meaning activations input body) (open_in (stream_meaning activations input body) (length (activations ++ new))) kept
-serves_next activations new input body kept no_output carried = record {
+pub serves_next : (activations new : List Activation) (input : List ℕ) (body : ℕ → List ℤ → Outcome) (state : State) (kept : List Kept) → ReadNoOutput (activations ++ new) → IsPartOf state activations input body → IsCarried activations input state kept → IsKeptFor (activations ++ new) input state (open_in state (length (activations ++ new))) kept
+serves_next activations new input body state kept no_output part carried = record {
   are_there = has_all (λ (k : Kept). (k.place.stream ≢ 0) × (stream_element state (stream_source (activations ++ new) input k.place) ≡ Some k.value)) kept (λ k h. let w = all_has (λ (k : Kept). (2 ≤ k.place.stream) × (stream_element state (stream_source activations input k.place) ≡ Some k.value)) kept k carried.are_there h in let low = w.0 in ((λ z. omega arith), element_more activations new input state k.place k.value w.1));
   none_is_missing = has_all (λ a. All (λ (p : Place). p.stream ≢ 0 → IsSome (stream_element state (stream_source (activations ++ new) input p)) → IsSome (value_kept kept p)) (input_places (activations ++ new) a)) frames (λ a frame. has_all (λ (p : Place). p.stream ≢ 0 → IsSome (stream_element state (stream_source (activations ++ new) input p)) → IsSome (value_kept kept p)) (input_places (activations ++ new) a) (λ p at other there. kept_of a frame p at other (there_value (stream_element state (stream_source (activations ++ new) input p)) there)));
 }
   where
-    state : State
-    state = stream_meaning activations input body
-
     frames : List ℕ
     frames = open_in state (length (activations ++ new))
 
@@ -247,23 +244,20 @@ serves_next activations new input body kept no_output carried = record {
     kept_of : (a : ℕ) → Has frames a → (p : Place) → Has (input_places (activations ++ new) a) p → p.stream ≢ 0 → (v : Elem) × (stream_element state (stream_source (activations ++ new) input p) ≡ Some v) → IsSome (value_kept kept p)
     kept_of a frame p at other (v, is) =
         let o = of_open state (length (activations ++ new)) a frame in
-        carried.none_is_lost p (declared a p o.0 at other) (reads_behind activations new (open_in state (length activations)) a p (who o.1 (cases_lt a (length activations))) at) (ap is_some (element_less activations new input body p v other is))
+        carried.none_is_lost p (declared a p o.0 at other) (reads_behind activations new (open_in state (length activations)) a p (who o.1 (cases_lt a (length activations))) at) (ap is_some (element_less activations new input body state p v part other is))
       where
         who : outcome_at state a ≡ None → (a < length activations) ⊎ (length activations ≤ a) → (Has (open_in state (length activations)) a) ⊎ (length activations ≤ a)
         who none (inl lt) = inl (in_open state (length activations) a lt none)
         who none (inr ge) = inr ge
 
 -- it was written by activations that are no frames
-pub is_outside : (activations new : List Activation) (input : List ℕ) (body : ℕ → List ℤ → Outcome) (kept : List Kept) (frames : List ℕ) → ((f a : ℕ) → slice_get frames f ≡ Some a → outcome_at (stream_meaning activations input body) a ≡ None) → IsCarried activations input (stream_meaning activations input body) kept → IsOutside (activations ++ new) frames kept
-is_outside activations new input body kept frames waits carried = record {
+pub is_outside : (activations new : List Activation) (input : List ℕ) (state : State) (kept : List Kept) (frames : List ℕ) → ((f a : ℕ) → slice_get frames f ≡ Some a → outcome_at state a ≡ None) → IsCarried activations input state kept → IsOutside (activations ++ new) frames kept
+is_outside activations new input state kept frames waits carried = record {
   are_declared = has_all (λ (k : Kept). 2 ≤ k.place.stream) kept (λ k h. (written_at k h).0);
   places_differ = carried.places_differ;
   written_outside = has_all (λ (k : Kept). (w : Window) × (producer (activations ++ new) k.place.stream k.place.position ≡ Some w) × (number_among frames w.activation ≡ None)) kept outside;
 }
   where
-    state : State
-    state = stream_meaning activations input body
-
     written_at : (k : Kept) → Has kept k → (2 ≤ k.place.stream) × (stream_element state (stream_source activations input k.place) ≡ Some k.value)
     written_at k h = all_has (λ (k : Kept). (2 ≤ k.place.stream) × (stream_element state (stream_source activations input k.place) ≡ Some k.value)) kept k carried.are_there h
 
@@ -279,12 +273,12 @@ is_outside activations new input body kept frames waits carried = record {
         let (o, ended) = output_outcome own_number state v.activation (v.offset + (k.place.position - v.first)) k.value out in
         (v, producer_more activations new k.place.stream k.place.position v is, no_frame v.activation o ended (number_among frames v.activation) refl)
 
-module _ (before new : List Activation) (input : List ℕ) (body : ℕ → List ℤ → Outcome) (readers frames : List ℕ) (kept : List Kept) (plan : Plan) (places : List Place) (epoch : HasEpoch before new input body readers frames kept plan places) where
+module _ (before new : List Activation) (input : List ℕ) (body : ℕ → List ℤ → Outcome) (state : State) (readers frames : List ℕ) (kept : List Kept) (plan : Plan) (places : List Place) (epoch : HasEpoch before new input body state readers frames kept plan places) where
   abbrev acts : List Activation
   acts = before ++ new
 
   abbrev earlier : State
-  earlier = stream_meaning before input body
+  earlier = state
 
   abbrev whole : State
   whole = stream_meaning (before ++ new) input body
@@ -298,7 +292,7 @@ module _ (before new : List Activation) (input : List ℕ) (body : ℕ → List 
     where
       by_outcome : (o : Option Outcome) → outcome_at earlier a ≡ o → outcome_at earlier a ≡ None
       by_outcome None e = e
-      by_outcome (Some o) e = let z = (prefix_extends before new input body).kept a o e in absurd (cc)
+      by_outcome (Some o) e = let z = (earlier_extends before new input body state readers frames kept plan places epoch).kept a o e in absurd (cc)
 
   -- it was a reader of the epoch
   left_reader : (a : ℕ) → Has left a → Has readers a
@@ -322,7 +316,7 @@ module _ (before new : List Activation) (input : List ℕ) (body : ℕ → List 
 
   -- what is no frame has the outcome that it had
   outcome_before : (a : ℕ) → number_among frames a ≡ None → outcome_at whole a ≡ outcome_at earlier a
-  outcome_before a n = sym (over_is_whole before new input body readers frames kept plan places epoch a) ∙ over_other before new input body readers frames kept plan places a n
+  outcome_before a n = sym (over_is_whole before new input body state readers frames kept plan places epoch a) ∙ over_other before new input body state readers frames kept plan places a n
 
   -- a place that a frame wrote leaves, where it is of the output or may be read
   frame_leaves : (p : Place) (w : Window) (f : ℕ) → producer acts p.stream p.position ≡ Some w → number_among frames w.activation ≡ Some f → (p.stream == 1 || nat_le (read_from acts readers p.stream) p.position) ≡ true → Has places p
@@ -336,7 +330,7 @@ module _ (before new : List Activation) (input : List ℕ) (body : ℕ → List 
   element_now p = stream_element whole (stream_source acts input p)
 
   values_are : values ≡ map element_now places
-  values_are = sink_leaves before new input body readers frames kept plan places epoch
+  values_are = sink_leaves before new input body state readers frames kept plan places epoch
 
   -- what is carried over
   abbrev over_all : List Kept
@@ -367,7 +361,7 @@ module _ (before new : List Activation) (input : List ℕ) (body : ℕ → List 
       by_number w is out None n =
           let out_before : output_at own_number earlier w.activation (w.offset + (p.position - w.first)) ≡ Some v = ap (option_and_then (λ (q : Outcome). element_written w.activation q (w.offset + (p.position - w.first)))) (sym (outcome_before w.activation n)) ∙ out in
           let (o, ended) = output_outcome own_number earlier w.activation (w.offset + (p.position - w.first)) v out_before in
-          let lt = outcome_exists before input body w.activation o ended in
+          let lt = outcome_exists before input body w.activation o (epoch.part.agrees w.activation o ended) in
           let was : stream_element earlier (stream_source before input p) ≡ Some v = ap (stream_element earlier) (produced_by before input p w (λ z. omega arith) (producer_less before new p.stream p.position w is lt)) ∙ out_before in
           let rises = read_from_rises p.stream in
           let (k, h, same) = there_kept kept p (carried.none_is_lost p declared (omega arith) (ap is_some was)) in
@@ -411,7 +405,7 @@ module _ (before new : List Activation) (input : List ℕ) (body : ℕ → List 
       was_written : (k : Kept) → is_readable acts left k.place ≡ true → (Has kept k) ⊎ (Has (elements_at places values) k) → (2 ≤ k.place.stream) × (stream_element whole (stream_source acts input k.place) ≡ Some k.value)
       was_written k test (inl h) =
           let w = all_has (λ (k : Kept). (2 ≤ k.place.stream) × (stream_element earlier (stream_source before input k.place) ≡ Some k.value)) kept k carried.are_there h in
-          (w.0, element_kept own_number earlier whole (prefix_extends before new input body).kept (stream_source acts input k.place) k.value (element_more before new input earlier k.place k.value w.1))
+          (w.0, element_kept own_number earlier whole (earlier_extends before new input body state readers frames kept plan places epoch).kept (stream_source acts input k.place) k.value (element_more before new input earlier k.place k.value w.1))
       was_written k test (inr h) =
           let e = of_elements element_now places k (subst (λ (vs : List (Option Elem)). Has (elements_at places vs) k) values_are h) in
           let parts = and_parts (nat_le 2 k.place.stream) (nat_le (read_from acts left k.place.stream) k.place.position) test in
@@ -444,7 +438,7 @@ module _ (before new : List Activation) (input : List ℕ) (body : ℕ → List 
       by_outcome w is n (Some o) e =
           ap (stream_element whole) (produced_by acts input p w other is)
           ∙ ap (option_and_then (λ (q : Outcome). element_written w.activation q (w.offset + (p.position - w.first)))) (outcome_before w.activation n)
-          ∙ sym (ap (stream_element earlier) (produced_by before input p w other (producer_less before new p.stream p.position w is (outcome_exists before input body w.activation o e))))
+          ∙ sym (ap (stream_element earlier) (produced_by before input p w other (producer_less before new p.stream p.position w is (outcome_exists before input body w.activation o (epoch.part.agrees w.activation o e)))))
 
       by_number : (w : Window) → producer acts p.stream p.position ≡ Some w → (n : Option ℕ) → number_among frames w.activation ≡ n → stream_element whole (stream_source acts input p) ≡ stream_element earlier (stream_source before input p)
       by_number w is (Some f) n =

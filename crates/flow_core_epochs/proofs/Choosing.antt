@@ -47,12 +47,12 @@ pub no_end : (o : Option Outcome) → option_map (λ (o : Outcome). o.end) o ≡
 no_end None h = refl
 no_end (Some o) h = absurd (cc)
 
-module _ (before new : List Activation) (input : List ℕ) (body : ℕ → List ℤ → Outcome) (frames : List ℕ) where
+module _ (before new : List Activation) (input : List ℕ) (body : ℕ → List ℤ → Outcome) (state : State) (frames : List ℕ) where
   abbrev acts : List Activation
   acts = before ++ new
 
   abbrev earlier : State
-  earlier = stream_meaning before input body
+  earlier = state
 
   abbrev whole : State
   whole = stream_meaning (before ++ new) input body
@@ -68,7 +68,7 @@ module _ (before new : List Activation) (input : List ℕ) (body : ℕ → List 
       let (o, at) = output_outcome own_number s b place v h in
       carries b o at (no_end (outcome_at earlier b) (sym (end_in earlier b) ∙ none), out)
 
-  left_gets_none : LeaveOutWaiting (before ++ new) input (ends_of (stream_meaning before input body)) frames → (a : ℕ) (o : Outcome) → outcome_at whole a ≡ Some o → IsLeft a → ⊥
+  left_gets_none : LeaveOutWaiting (before ++ new) input (ends_of state) frames → (a : ℕ) (o : Outcome) → outcome_at whole a ≡ Some o → IsLeft a → ⊥
   left_gets_none leave = holds_in_meaning stream_element (stream_reads acts input) (poisoning body) (length acts) (λ a o. IsLeft a → ⊥) (record { fires = fire })
     where
       fire : (s : State) → Extends s whole → ((a : ℕ) (o : Outcome) → outcome_at s a ≡ Some o → IsLeft a → ⊥) → (a : ℕ) (vs : List Elem) → a < length acts → inputs_in stream_element (stream_reads acts input) s a ≡ Some vs → IsLeft a → ⊥
@@ -77,7 +77,7 @@ module _ (before new : List Activation) (input : List ℕ) (body : ℕ → List 
           let (v, there) = gathered_each (stream_element s) (stream_reads acts input a) vs inputs (stream_source acts input p) (in_map (stream_source acts input) (input_places acts a) p (has_contained (input_places acts a) p reads)) in
           comes_not s extends carries (stream_source acts input p) cannot v there
 
-  pub chosen_by : LeaveOutWaiting (before ++ new) input (ends_of (stream_meaning before input body)) frames → AreChosen before new input body frames
+  pub chosen_by : LeaveOutWaiting (before ++ new) input (ends_of state) frames → AreChosen before new input body state frames
   chosen_by leave = record {
     are_open = λ f a h. ((leave.are_open f a h).0, no_end (outcome_at earlier a) (sym (end_in earlier a) ∙ (leave.are_open f a h).1));
     ascend = leave.ascend;
@@ -104,6 +104,6 @@ all_leave_nothing activations input ends frames is = subst (LeaveOutWaiting acti
   others_wait = λ a lt none out. let (f, at) = open_all ends (length activations) a lt none in let z = ascending_numbered (open_in ends (length activations)) (open_ascend ends (length activations)) f a at in absurd (cc);
 })
 
-pub chosen_all : (before new : List Activation) (input : List ℕ) (body : ℕ → List ℤ → Outcome) (frames : List ℕ) → frames ≡ open_in (stream_meaning before input body) (length (before ++ new)) → AreChosen before new input body frames
-chosen_all before new input body frames is =
-    chosen_by before new input body frames (all_leave_nothing (before ++ new) input (ends_of (stream_meaning before input body)) frames (is ∙ sym (open_by_ends (stream_meaning before input body) (length (before ++ new)))))
+pub chosen_all : (before new : List Activation) (input : List ℕ) (body : ℕ → List ℤ → Outcome) (state : State) (frames : List ℕ) → frames ≡ open_in state (length (before ++ new)) → AreChosen before new input body state frames
+chosen_all before new input body state frames is =
+    chosen_by before new input body state frames (all_leave_nothing (before ++ new) input (ends_of state) frames (is ∙ sym (open_by_ends state (length (before ++ new)))))

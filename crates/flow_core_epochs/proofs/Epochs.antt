@@ -23,7 +23,7 @@ use Rattle.flow_core_laws.specs.Round.{gathered, inputs_in}
 use Rattle.flow_core_laws.proofs.Sources.{find_passes}
 use Rattle.flow_core_laws.proofs.Rounds.{Extends, gathered-extends, outcome_at-meaning, length-meaning}
 use Rattle.flow_core_laws.proofs.Elements.{element_kept}
-use Rattle.flow_core_epochs.specs.Epoch.{open_in, number_among, put_over, Kept, is_at, value_kept, among, epoch_source, IsKeptFor, StandsForEpoch}
+use Rattle.flow_core_epochs.specs.Epoch.{open_in, number_among, put_over, Kept, is_at, value_kept, among, epoch_source, IsKeptFor, IsPartOf, StandsForEpoch}
 use Rattle.flow_core_epochs.proofs.Holding.{gathered_both, holds_in_meaning}
 use Rattle.flow_core_epochs.proofs.Prefixes.{prefix_extends}
 use Rattle.flow_core_epochs.proofs.Frames.{numbers_back}
@@ -72,18 +72,19 @@ kept_value activations input state frames kept p v ok h = by_find (find (is_at p
         (subst (λ (q : Place). q.stream ≢ 0) place w'.0, ap (λ (q : Place). stream_element state (stream_source activations input q)) (sym place) ∙ w'.1 ∙ ap Some value)
 
 -- The epoch after some activations, with what is asked of it.
-pub record HasEpoch (before new : List Activation) (input : List ℕ) (body : ℕ → List ℤ → Outcome) (readers frames : List ℕ) (kept : List Kept) (plan : Plan) (places : List Place) : Type 0 where
-  pub readers_are : readers ≡ open_in (stream_meaning before input body) (length (before ++ new))
-  pub are_open : AreTaken (stream_meaning before input body) (stream_meaning (before ++ new) input body) (length (before ++ new)) frames
-  pub kept_well : IsKeptFor (before ++ new) input (stream_meaning before input body) frames kept
+pub record HasEpoch (before new : List Activation) (input : List ℕ) (body : ℕ → List ℤ → Outcome) (state : State) (readers frames : List ℕ) (kept : List Kept) (plan : Plan) (places : List Place) : Type 0 where
+  pub part : IsPartOf state before input body
+  pub readers_are : readers ≡ open_in state (length (before ++ new))
+  pub are_open : AreTaken state (stream_meaning (before ++ new) input body) (length (before ++ new)) frames
+  pub kept_well : IsKeptFor (before ++ new) input state frames kept
   pub stands : StandsForEpoch plan (before ++ new) input readers frames kept places
 
-module _ (before new : List Activation) (input : List ℕ) (body : ℕ → List ℤ → Outcome) (readers frames : List ℕ) (kept : List Kept) (plan : Plan) (places : List Place) where
+module _ (before new : List Activation) (input : List ℕ) (body : ℕ → List ℤ → Outcome) (state : State) (readers frames : List ℕ) (kept : List Kept) (plan : Plan) (places : List Place) where
   abbrev pub acts : List Activation
   acts = before ++ new
 
   abbrev pub earlier : State
-  earlier = stream_meaning before input body
+  earlier = state
 
   abbrev pub whole : State
   whole = stream_meaning (before ++ new) input body
@@ -104,15 +105,15 @@ module _ (before new : List Activation) (input : List ℕ) (body : ℕ → List 
   pub over_other : (a : ℕ) → number_among frames a ≡ None → over a ≡ outcome_at earlier a
   over_other a h = ap (λ (o : Option ℕ). option_map_or (outcome_at partial) o (outcome_at earlier a)) h
 
-  earlier_extends : Extends earlier whole
-  earlier_extends = prefix_extends before new input body
+  pub earlier_extends : HasEpoch before new input body state readers frames kept plan places → Extends earlier whole
+  earlier_extends epoch = record { kept = λ a o h. (prefix_extends before new input body).kept a o (epoch.part.agrees a o h) }
 
   -- a frame has its activation's number
-  pub number_is : HasEpoch before new input body readers frames kept plan places → (f a : ℕ) → slice_get frames f ≡ Some a → number_at plan f ≡ a
+  pub number_is : HasEpoch before new input body state readers frames kept plan places → (f a : ℕ) → slice_get frames f ≡ Some a → number_at plan f ≡ a
   number_is epoch f a h = ap (λ (numbers : List ℕ). get_or numbers f f) epoch.stands.numbers_are_theirs ∙ get_or_from_slice_get frames f a f h
 
   -- an element of the epoch is one of the run
-  element_of_epoch : HasEpoch before new input body readers frames kept plan places → (s : State) → ((f : ℕ) (o : Outcome) → outcome_at s f ≡ Some o → outcome_at whole (get_or frames f 0) ≡ Some o) → (p : Place) (v : Elem) → plan_element plan s (epoch_source acts input frames kept p) ≡ Some v → stream_element whole (stream_source acts input p) ≡ Some v
+  element_of_epoch : HasEpoch before new input body state readers frames kept plan places → (s : State) → ((f : ℕ) (o : Outcome) → outcome_at s f ≡ Some o → outcome_at whole (get_or frames f 0) ≡ Some o) → (p : Place) (v : Elem) → plan_element plan s (epoch_source acts input frames kept p) ≡ Some v → stream_element whole (stream_source acts input p) ≡ Some v
   element_of_epoch epoch s carries p v = by_kept (value_kept kept p) refl (stream_source acts input p) refl
     where
       by_number : (a place : ℕ) (n : Option ℕ) → number_among frames a ≡ n → plan_element plan s (option_map_or (λ f. fed f place) n nobody) ≡ Some v → output_at own_number whole a place ≡ Some v
@@ -120,13 +121,13 @@ module _ (before new : List Activation) (input : List ℕ) (body : ℕ → List 
       by_number a place (Some f) e h = output_carries (number_at plan) own_number s whole f a place v (number_is epoch f a (numbers_back frames a f e)) (λ o is. ap (outcome_at whole) (sym (get_or_from_slice_get frames f a 0 (numbers_back frames a f e))) ∙ carries f o is) h
 
       by_kept : (k : Option Elem) → value_kept kept p ≡ k → (source : Source) → stream_source acts input p ≡ source → plan_element plan s (option_map_or initial k (among frames (stream_source acts input p))) ≡ Some v → stream_element whole (stream_source acts input p) ≡ Some v
-      by_kept (Some w) k_is source is h = element_kept own_number earlier whole earlier_extends.kept (stream_source acts input p) v ((kept_value acts input earlier frames kept p w epoch.kept_well k_is).1 ∙ h)
+      by_kept (Some w) k_is source is h = element_kept own_number earlier whole (earlier_extends epoch).kept (stream_source acts input p) v ((kept_value acts input earlier frames kept p w epoch.kept_well k_is).1 ∙ h)
       by_kept None k_is (initial w) is h = ap (stream_element whole) is ∙ sym (ap (λ (x : Source). plan_element plan s (among frames x)) is) ∙ h
       by_kept None k_is nobody is h = let z : plan_element plan s (among frames (stream_source acts input p)) ≡ None = ap (λ (x : Source). plan_element plan s (among frames x)) is in absurd (cc)
       by_kept None k_is (fed a place) is h = ap (stream_element whole) is ∙ by_number a place (number_among frames a) refl (sym (ap (λ (x : Source). plan_element plan s (among frames x)) is) ∙ h)
 
   -- each outcome of the epoch is the run's
-  partial_is_whole : HasEpoch before new input body readers frames kept plan places → (f : ℕ) (o : Outcome) → outcome_at partial f ≡ Some o → outcome_at whole (get_or frames f 0) ≡ Some o
+  partial_is_whole : HasEpoch before new input body state readers frames kept plan places → (f : ℕ) (o : Outcome) → outcome_at partial f ≡ Some o → outcome_at whole (get_or frames f 0) ≡ Some o
   partial_is_whole epoch = holds_in_meaning (plan_element plan) (plan_reads plan) (poisoning of_frames) (length plan.frames) (λ f o. outcome_at whole (get_or frames f 0) ≡ Some o) (record { fires = fire })
     where
       fire : (s : State) → Extends s partial → ((f : ℕ) (o : Outcome) → outcome_at s f ≡ Some o → outcome_at whole (get_or frames f 0) ≡ Some o) → (f : ℕ) (vs : List Elem) → f < length plan.frames → inputs_in (plan_element plan) (plan_reads plan) s f ≡ Some vs → outcome_at whole (get_or frames f 0) ≡ Some (poisoning body (slice_index frames f) vs)
@@ -140,7 +141,7 @@ module _ (before new : List Activation) (input : List ℕ) (body : ℕ → List 
           outcome_at-meaning stream_element (element_kept own_number) (stream_reads acts input) (poisoning body) (length acts) a (epoch.are_open.exists f a is) ∙ ap (option_map (poisoning body a)) there
 
   -- an element of the run that a frame reads is there in the epoch
-  element_in_epoch : HasEpoch before new input body readers frames kept plan places → (s : State) → Extends s whole → ((a : ℕ) (o : Outcome) → outcome_at s a ≡ Some o → over a ≡ Some o) → (p : Place) (v : Elem) → (p.stream ≢ 0 → IsSome (stream_element earlier (stream_source acts input p)) → IsSome (value_kept kept p)) → stream_element s (stream_source acts input p) ≡ Some v → plan_element plan partial (epoch_source acts input frames kept p) ≡ Some v
+  element_in_epoch : HasEpoch before new input body state readers frames kept plan places → (s : State) → Extends s whole → ((a : ℕ) (o : Outcome) → outcome_at s a ≡ Some o → over a ≡ Some o) → (p : Place) (v : Elem) → (p.stream ≢ 0 → IsSome (stream_element earlier (stream_source acts input p)) → IsSome (value_kept kept p)) → stream_element s (stream_source acts input p) ≡ Some v → plan_element plan partial (epoch_source acts input frames kept p) ≡ Some v
   element_in_epoch epoch s extends carries p v keeps h = by_kept (value_kept kept p) refl (stream_source acts input p) refl
     where
       by_number : (a place : ℕ) (n : Option ℕ) → number_among frames a ≡ n → value_kept kept p ≡ None → stream_source acts input p ≡ fed a place → plan_element plan partial (option_map_or (λ f. fed f place) n nobody) ≡ Some v
@@ -152,13 +153,13 @@ module _ (before new : List Activation) (input : List ℕ) (body : ℕ → List 
           absurd (cc)
 
       by_kept : (k : Option Elem) → value_kept kept p ≡ k → (source : Source) → stream_source acts input p ≡ source → plan_element plan partial (option_map_or initial k (among frames (stream_source acts input p))) ≡ Some v
-      by_kept (Some w) k_is source is = sym (element_kept own_number earlier whole earlier_extends.kept (stream_source acts input p) w (kept_value acts input earlier frames kept p w epoch.kept_well k_is).1) ∙ element_kept own_number s whole extends.kept (stream_source acts input p) v h
+      by_kept (Some w) k_is source is = sym (element_kept own_number earlier whole (earlier_extends epoch).kept (stream_source acts input p) w (kept_value acts input earlier frames kept p w epoch.kept_well k_is).1) ∙ element_kept own_number s whole extends.kept (stream_source acts input p) v h
       by_kept None k_is (initial w) is = ap (λ (x : Source). plan_element plan partial (among frames x)) is ∙ sym (ap (stream_element s) is) ∙ h
       by_kept None k_is nobody is = let z : stream_element s (stream_source acts input p) ≡ None = ap (stream_element s) is in absurd (cc)
       by_kept None k_is (fed a place) is = ap (λ (x : Source). plan_element plan partial (among frames x)) is ∙ by_number a place (number_among frames a) refl k_is is
 
   -- no activation with an outcome before the epoch is a frame
-  no_frame : HasEpoch before new input body readers frames kept plan places → (a : ℕ) (o : Outcome) → outcome_at earlier a ≡ Some o → number_among frames a ≡ None
+  no_frame : HasEpoch before new input body state readers frames kept plan places → (a : ℕ) (o : Outcome) → outcome_at earlier a ≡ Some o → number_among frames a ≡ None
   no_frame epoch a o h = by_number (number_among frames a) refl
     where
       by_number : (n : Option ℕ) → number_among frames a ≡ n → number_among frames a ≡ None
@@ -166,7 +167,7 @@ module _ (before new : List Activation) (input : List ℕ) (body : ℕ → List 
       by_number (Some f) e = let z = epoch.are_open.waits f a (numbers_back frames a f e) in absurd (cc)
 
   -- each outcome of the run is the epoch's, or was there before it
-  whole_is_over : HasEpoch before new input body readers frames kept plan places → (a : ℕ) (o : Outcome) → outcome_at whole a ≡ Some o → over a ≡ Some o
+  whole_is_over : HasEpoch before new input body state readers frames kept plan places → (a : ℕ) (o : Outcome) → outcome_at whole a ≡ Some o → over a ≡ Some o
   whole_is_over epoch = holds_in_meaning stream_element (stream_reads acts input) (poisoning body) (length acts) (λ a o. over a ≡ Some o) (record { fires = fire })
     where
       fire : (s : State) → Extends s whole → ((a : ℕ) (o : Outcome) → outcome_at s a ≡ Some o → over a ≡ Some o) → (a : ℕ) (vs : List Elem) → a < length acts → inputs_in stream_element (stream_reads acts input) s a ≡ Some vs → over a ≡ Some (poisoning body a vs)
@@ -196,7 +197,7 @@ module _ (before new : List Activation) (input : List ℕ) (body : ℕ → List 
 
           by_outcome : (o : Option Outcome) → outcome_at earlier a ≡ o → over a ≡ Some (poisoning body a vs)
           by_outcome (Some o) e =
-              over_other a (no_frame epoch a o e) ∙ e ∙ sym (earlier_extends.kept a o e) ∙ meant
+              over_other a (no_frame epoch a o e) ∙ e ∙ sym ((earlier_extends epoch).kept a o e) ∙ meant
           by_outcome None e = by_number (number_among frames a) refl
             where
               by_number : (n : Option ℕ) → number_among frames a ≡ n → over a ≡ Some (poisoning body a vs)
@@ -204,11 +205,11 @@ module _ (before new : List Activation) (input : List ℕ) (body : ℕ → List 
               by_number (Some f) is_f = of_frame f (numbers_back frames a f is_f)
 
   -- both give each activation the same
-  pub over_is_whole : HasEpoch before new input body readers frames kept plan places → (a : ℕ) → over a ≡ outcome_at whole a
+  pub over_is_whole : HasEpoch before new input body state readers frames kept plan places → (a : ℕ) → over a ≡ outcome_at whole a
   over_is_whole epoch a = by_outcome (outcome_at whole a) refl (over a) refl
     where
       from_over : (n : Option ℕ) (o : Outcome) → number_among frames a ≡ n → over a ≡ Some o → outcome_at whole a ≡ Some o
-      from_over None o e h = earlier_extends.kept a o (sym (over_other a e) ∙ h)
+      from_over None o e h = (earlier_extends epoch).kept a o (sym (over_other a e) ∙ h)
       from_over (Some f) o e h = ap (outcome_at whole) (sym (get_or_from_slice_get frames f a 0 (numbers_back frames a f e))) ∙ partial_is_whole epoch f o (sym (over_frame a f e) ∙ h)
 
       by_outcome : (p : Option Outcome) → outcome_at whole a ≡ p → (q : Option Outcome) → over a ≡ q → over a ≡ outcome_at whole a
@@ -216,7 +217,7 @@ module _ (before new : List Activation) (input : List ℕ) (body : ℕ → List 
       by_outcome None e None f = f ∙ sym e
       by_outcome None e (Some o) f = f ∙ sym (from_over (number_among frames a) o refl f)
 
-  pub adds_up : HasEpoch before new input body readers frames kept plan places → put_over earlier frames partial (length acts) ≡ whole
+  pub adds_up : HasEpoch before new input body state readers frames kept plan places → put_over earlier frames partial (length acts) ≡ whole
   adds_up epoch = same_lists (map over (range_with_len 0 (length acts))) whole (length-map-range_with_len over 0 (length acts) ∙ sym l) (λ k d lt. at k d (omega (arith, length-map-range_with_len over 0 (length acts))))
     where
       l : length whole ≡ length acts
@@ -225,5 +226,5 @@ module _ (before new : List Activation) (input : List ℕ) (body : ℕ → List 
       at : (k : ℕ) (d : Option Outcome) → k < length acts → get_or (map over (range_with_len 0 (length acts))) k d ≡ get_or whole k d
       at k d lt = get_or-map-range_with_len over 0 (length acts) k k d lt (omega arith) ∙ over_is_whole epoch k ∙ get_or_default whole k None d (omega (arith, l))
 
-  pub frames_end : HasEpoch before new input body readers frames kept plan places → (f a : ℕ) → slice_get frames f ≡ Some a → outcome_at whole a ≡ outcome_at partial f
+  pub frames_end : HasEpoch before new input body state readers frames kept plan places → (f a : ℕ) → slice_get frames f ≡ Some a → outcome_at whole a ≡ outcome_at partial f
   frames_end epoch f a at = sym (over_is_whole epoch a) ∙ over_frame a f (epoch.are_open.numbered f a at)

@@ -23,7 +23,7 @@ use Rattle.flow_core_laws.specs.Plans.{sink_elements}
 use Rattle.flow_core_laws.specs.Poisoning.{poisoning}
 use Rattle.flow_core_laws.specs.Streams.{stream_source, stream_reads, stream_meaning, output_elements, stream_element}
 use Rattle.flow_core_laws.proofs.Rounds.{length-meaning}
-use Rattle.flow_core_epochs.specs.Epoch.{open_in, number_among, put_over, is_output_at, ReadNoOutput, Kept, carried_over, output_over, IsKeptFor, IsCarried, IsOutside, StandsForEpoch, LeaveOutWaiting, IsEpoch, IsHeld, IsHeldAfter, epoch_meaning}
+use Rattle.flow_core_epochs.specs.Epoch.{open_in, number_among, put_over, is_output_at, ReadNoOutput, Kept, carried_over, output_over, IsKeptFor, IsCarried, IsOutside, StandsForEpoch, LeaveOutWaiting, IsEpoch, IsHeld, IsHeldAfter, IsPartHeld, epoch_meaning}
 use Rattle.flow_core_epochs.proofs.Members.{Has}
 use Rattle.flow_core_epochs.proofs.Epochs.{HasEpoch, over_frame, over_other, over_is_whole}
 use Rattle.flow_core_epochs.proofs.Choosing.{end_in, chosen_by, open_by_ends}
@@ -98,21 +98,20 @@ pub held_at_first : (input : List ℕ) (body : ℕ → List ℤ → Outcome) →
 unfolding meaning rounds
 held_at_first input body = record { ends_are_meant = refl; kept_is_carried = nothing_at_first input body; output_is_meant = refl }
 
-pub begins_epoch : (before new : List Activation) (input : List ℕ) (body : ℕ → List ℤ → Outcome) (ends : List (Option TaskEnd)) (kept : List Kept) (output : List (Option Elem)) (readers frames : List ℕ) → ReadNoOutput (before ++ new) → IsHeld before input body ends kept output → readers ≡ open_in ends (length (before ++ new)) → LeaveOutWaiting (before ++ new) input ends frames
-    → IsOutside (before ++ new) frames kept × ((plan : Plan) (places : List Place) → StandsForEpoch plan (before ++ new) input readers frames kept places → IsEpoch before new input body readers frames kept plan places)
-begins_epoch before new input body ends kept output readers frames no_output held is leave =
-    let state = stream_meaning before input body in
+pub begins_epoch : (before new : List Activation) (input : List ℕ) (body : ℕ → List ℤ → Outcome) (state : State) (ends : List (Option TaskEnd)) (kept : List Kept) (output : List (Option Elem)) (readers frames : List ℕ) → ReadNoOutput (before ++ new) → IsPartHeld before input body state ends kept output → readers ≡ open_in ends (length (before ++ new)) → LeaveOutWaiting (before ++ new) input ends frames
+    → IsOutside (before ++ new) frames kept × ((plan : Plan) (places : List Place) → StandsForEpoch plan (before ++ new) input readers frames kept places → IsEpoch before new input body state readers frames kept plan places)
+begins_epoch before new input body state ends kept output readers frames no_output held is leave =
     let n = length (before ++ new) in
-    let e : readers ≡ open_in state n = is ∙ ap (λ (es : List (Option TaskEnd)). open_in es n) held.ends_are_meant ∙ open_by_ends state n in
-    let chosen = chosen_by before new input body frames (subst (λ (es : List (Option TaskEnd)). LeaveOutWaiting (before ++ new) input es frames) held.ends_are_meant leave) in
-    (is_outside before new input body kept frames (λ f a h. (chosen.are_open f a h).1) held.kept_is_carried, λ plan places stands. record { readers_are_open = e; frames_are_chosen = chosen; has_kept = subst (λ (fs : List ℕ). IsKeptFor (before ++ new) input state fs kept) (sym e) (serves_next before new input body kept no_output held.kept_is_carried); plan_stands = stands })
+    let e : readers ≡ open_in state n = is ∙ ap (λ (es : List (Option TaskEnd)). open_in es n) held.ends_are_of_state ∙ open_by_ends state n in
+    let chosen = chosen_by before new input body state frames (subst (λ (es : List (Option TaskEnd)). LeaveOutWaiting (before ++ new) input es frames) held.ends_are_of_state leave) in
+    (is_outside before new input state kept frames (λ f a h. (chosen.are_open f a h).1) held.kept_is_carried, λ plan places stands. record { state_is_part = held.state_is_part; readers_are_open = e; frames_are_chosen = chosen; has_kept = subst (λ (fs : List ℕ). IsKeptFor (before ++ new) input state fs kept) (sym e) (serves_next before new input body state kept no_output held.state_is_part held.kept_is_carried); plan_stands = stands })
 
-module _ (before new : List Activation) (input : List ℕ) (body : ℕ → List ℤ → Outcome) (readers frames : List ℕ) (kept : List Kept) (plan : Plan) (places : List Place) (epoch : HasEpoch before new input body readers frames kept plan places) (ends : List (Option TaskEnd)) (output : List (Option Elem)) (run : Ends) (held : IsHeld before input body ends kept output) (run_ends : run.ends ≡ ends_of (epoch_meaning plan frames body)) (run_output : run.output ≡ sink_elements plan (epoch_meaning plan frames body)) where
+module _ (before new : List Activation) (input : List ℕ) (body : ℕ → List ℤ → Outcome) (state : State) (readers frames : List ℕ) (kept : List Kept) (plan : Plan) (places : List Place) (epoch : HasEpoch before new input body state readers frames kept plan places) (ends : List (Option TaskEnd)) (output : List (Option Elem)) (run : Ends) (held : IsPartHeld before input body state ends kept output) (run_ends : run.ends ≡ ends_of (epoch_meaning plan frames body)) (run_output : run.output ≡ sink_elements plan (epoch_meaning plan frames body)) where
   abbrev acts : List Activation
   acts = before ++ new
 
   abbrev earlier : State
-  earlier = stream_meaning before input body
+  earlier = state
 
   abbrev whole : State
   whole = stream_meaning (before ++ new) input body
@@ -132,12 +131,12 @@ module _ (before new : List Activation) (input : List ℕ) (body : ℕ → List 
           ap (λ (o : Option ℕ). option_map_or (outcome_at run.ends) o (outcome_at ends a)) e
           ∙ ap (λ (es : List (Option TaskEnd)). outcome_at es f) run_ends
           ∙ end_in partial f
-          ∙ ap (option_map (λ (o : Outcome). o.end)) (sym (over_frame before new input body readers frames kept plan places a f e) ∙ over_is_whole before new input body readers frames kept plan places epoch a)
+          ∙ ap (option_map (λ (o : Outcome). o.end)) (sym (over_frame before new input body state readers frames kept plan places a f e) ∙ over_is_whole before new input body state readers frames kept plan places epoch a)
       by_number None e =
           ap (λ (o : Option ℕ). option_map_or (outcome_at run.ends) o (outcome_at ends a)) e
-          ∙ ap (λ (es : List (Option TaskEnd)). outcome_at es a) held.ends_are_meant
+          ∙ ap (λ (es : List (Option TaskEnd)). outcome_at es a) held.ends_are_of_state
           ∙ end_in earlier a
-          ∙ ap (option_map (λ (o : Outcome). o.end)) (sym (over_other before new input body readers frames kept plan places a e) ∙ over_is_whole before new input body readers frames kept plan places epoch a)
+          ∙ ap (option_map (λ (o : Outcome). o.end)) (sym (over_other before new input body state readers frames kept plan places a e) ∙ over_is_whole before new input body state readers frames kept plan places epoch a)
 
   ends_are_whole : put_over ends frames run.ends (length acts) ≡ ends_of whole
   ends_are_whole = same_lists (map end_after (range_with_len 0 (length acts))) (ends_of whole) (length-map-range_with_len end_after 0 (length acts) ∙ sym l) (λ k d lt. at k d (omega (arith, length-map-range_with_len end_after 0 (length acts))))
@@ -172,14 +171,14 @@ module _ (before new : List Activation) (input : List ℕ) (body : ℕ → List 
           let lt = p.0 in
           let is : get_or places i (at_output at) ≡ at_output at = same_place (get_or places i (at_output at)) p.1 in
           ap (λ (o : Option ℕ). option_map_or (λ i. get_or run.output i None) o (get_or output at None)) e
-          ∙ ap (λ (os : List (Option Elem)). get_or os i None) (run_output ∙ sink_leaves before new input body readers frames kept plan places epoch)
+          ∙ ap (λ (os : List (Option Elem)). get_or os i None) (run_output ∙ sink_leaves before new input body state readers frames kept plan places epoch)
           ∙ get_or-map element_now places i (at_output at) None lt
           ∙ ap element_now is
       by_number None e =
           ap (λ (o : Option ℕ). option_map_or (λ i. get_or run.output i None) o (get_or output at None)) e
-          ∙ ap (λ (os : List (Option Elem)). get_or os at None) held.output_is_meant
+          ∙ ap (λ (os : List (Option Elem)). get_or os at None) held.output_is_of_state
           ∙ output_element before input earlier at
-          ∙ sym (output_stays before new input body readers frames kept plan places epoch (at_output at) refl (not_there e))
+          ∙ sym (output_stays before new input body state readers frames kept plan places epoch (at_output at) refl (not_there e))
 
   output_is_whole : output_over output places run.output (written_count acts 1) ≡ output_elements acts input whole
   output_is_whole = same_maps (range_with_len 0 (written_count acts 1)) ∙ sym (output_elements-at acts input whole)
@@ -192,6 +191,6 @@ module _ (before new : List Activation) (input : List ℕ) (body : ℕ → List 
   held_after = record {
     ends_are_meant = ends_are_whole;
     kept_is_carried = subst (λ (fs : List ℕ). IsCarried acts input whole (carried_over acts fs kept places run.output)) (sym (ap (λ (es : List (Option TaskEnd)). open_in es (length acts)) ends_are_whole ∙ open_by_ends whole (length acts)))
-        (subst (λ (vs : List (Option Elem)). IsCarried acts input whole (carried_over acts (open_in whole (length acts)) kept places vs)) (sym run_output) (carries_over before new input body readers frames kept plan places epoch held.kept_is_carried));
+        (subst (λ (vs : List (Option Elem)). IsCarried acts input whole (carried_over acts (open_in whole (length acts)) kept places vs)) (sym run_output) (carries_over before new input body state readers frames kept plan places epoch held.kept_is_carried));
     output_is_meant = output_is_whole;
   }

@@ -25,22 +25,22 @@ same_elements f g h k [] same = refl
 same_elements {V = V} f g h k (x ∷ xs) same =
     ap (λ (v : V). v ∷ map f (map h xs)) (same x (0, refl)) ∙ ap (λ (vs : List V). g (k x) ∷ vs) (same_elements f g h k xs (λ y at. same y (has_tail x xs y at)))
 
-module _ (before new : List Activation) (input : List ℕ) (body : ℕ → List ℤ → Outcome) (readers frames : List ℕ) (kept : List Kept) (plan : Plan) (places : List Place) where
+module _ (before new : List Activation) (input : List ℕ) (body : ℕ → List ℤ → Outcome) (state : State) (readers frames : List ℕ) (kept : List Kept) (plan : Plan) (places : List Place) where
   -- an element that a frame feeds is the same in the epoch and in the run
-  pub element_of_frame : HasEpoch before new input body readers frames kept plan places → (p : Place) (f a place : ℕ) → slice_get frames f ≡ Some a → stream_source (before ++ new) input p ≡ fed a place → plan_element plan (partial before new input body readers frames kept plan places) (epoch_source (before ++ new) input frames kept p) ≡ stream_element (whole before new input body readers frames kept plan places) (stream_source (before ++ new) input p)
+  pub element_of_frame : HasEpoch before new input body state readers frames kept plan places → (p : Place) (f a place : ℕ) → slice_get frames f ≡ Some a → stream_source (before ++ new) input p ≡ fed a place → plan_element plan (partial before new input body state readers frames kept plan places) (epoch_source (before ++ new) input frames kept p) ≡ stream_element (whole before new input body state readers frames kept plan places) (stream_source (before ++ new) input p)
   element_of_frame epoch p f a place at is =
       ap (λ (k : Option Elem). plan_element plan m (option_map_or initial k (among frames (stream_source (before ++ new) input p)))) (not_kept (value_kept kept p) refl)
       ∙ ap (λ (x : Source). plan_element plan m (among frames x)) is
       ∙ ap (λ (n : Option ℕ). plan_element plan m (option_map_or (λ g. fed g place) n nobody)) (epoch.are_open.numbered f a at)
-      ∙ ap (λ (n : ℕ). option_and_then (λ (q : Outcome). element_written n q place) (outcome_at m f)) (number_is before new input body readers frames kept plan places epoch f a at)
-      ∙ ap (λ (o : Option Outcome). option_output o) (sym (over_frame before new input body readers frames kept plan places a f (epoch.are_open.numbered f a at)) ∙ over_is_whole before new input body readers frames kept plan places epoch a)
+      ∙ ap (λ (n : ℕ). option_and_then (λ (q : Outcome). element_written n q place) (outcome_at m f)) (number_is before new input body state readers frames kept plan places epoch f a at)
+      ∙ ap (λ (o : Option Outcome). option_output o) (sym (over_frame before new input body state readers frames kept plan places a f (epoch.are_open.numbered f a at)) ∙ over_is_whole before new input body state readers frames kept plan places epoch a)
       ∙ sym (ap (stream_element all) is)
     where
       m : State
-      m = partial before new input body readers frames kept plan places
+      m = partial before new input body state readers frames kept plan places
 
       all : State
-      all = whole before new input body readers frames kept plan places
+      all = whole before new input body state readers frames kept plan places
 
       option_output : Option Outcome → Option Elem
       option_output o = option_and_then (λ (q : Outcome). element_written a q place) o
@@ -48,13 +48,13 @@ module _ (before new : List Activation) (input : List ℕ) (body : ℕ → List 
       not_kept : (k : Option Elem) → value_kept kept p ≡ k → value_kept kept p ≡ None
       not_kept None e = e
       not_kept (Some v) e =
-          let w = kept_value (before ++ new) input (earlier before new input body readers frames kept plan places) frames kept p v epoch.kept_well e in
-          let (o, ended) = output_outcome own_number (earlier before new input body readers frames kept plan places) a place v (sym (ap (stream_element (earlier before new input body readers frames kept plan places)) is) ∙ w.1) in
+          let w = kept_value (before ++ new) input (earlier before new input body state readers frames kept plan places) frames kept p v epoch.kept_well e in
+          let (o, ended) = output_outcome own_number (earlier before new input body state readers frames kept plan places) a place v (sym (ap (stream_element (earlier before new input body state readers frames kept plan places)) is) ∙ w.1) in
           let none = epoch.are_open.waits f a at in
           absurd (cc)
 
   -- an element of the input too
-  pub element_of_input : HasEpoch before new input body readers frames kept plan places → (p : Place) → p.stream ≡ 0 → plan_element plan (partial before new input body readers frames kept plan places) (epoch_source (before ++ new) input frames kept p) ≡ stream_element (whole before new input body readers frames kept plan places) (stream_source (before ++ new) input p)
+  pub element_of_input : HasEpoch before new input body state readers frames kept plan places → (p : Place) → p.stream ≡ 0 → plan_element plan (partial before new input body state readers frames kept plan places) (epoch_source (before ++ new) input frames kept p) ≡ stream_element (whole before new input body state readers frames kept plan places) (stream_source (before ++ new) input p)
   element_of_input epoch p zero_stream =
       ap (λ (k : Option Elem). plan_element plan m (option_map_or initial k (among frames (stream_source (before ++ new) input p)))) (not_kept (value_kept kept p) refl)
       ∙ ap (λ (x : Source). plan_element plan m (among frames x)) is
@@ -62,10 +62,10 @@ module _ (before new : List Activation) (input : List ℕ) (body : ℕ → List 
       ∙ sym (ap (stream_element all) is)
     where
       m : State
-      m = partial before new input body readers frames kept plan places
+      m = partial before new input body state readers frames kept plan places
 
       all : State
-      all = whole before new input body readers frames kept plan places
+      all = whole before new input body state readers frames kept plan places
 
       is : stream_source (before ++ new) input p ≡ input_source input p.position
       is = ap (λ (b : Bool). cond b (input_source input p.position) (produced_source (before ++ new) p.stream p.position)) (ap (λ (n : ℕ). n == 0) zero_stream)
@@ -76,22 +76,22 @@ module _ (before new : List Activation) (input : List ℕ) (body : ℕ → List 
 
       not_kept : (k : Option Elem) → value_kept kept p ≡ k → value_kept kept p ≡ None
       not_kept None e = e
-      not_kept (Some v) e = absurd ((kept_value (before ++ new) input (earlier before new input body readers frames kept plan places) frames kept p v epoch.kept_well e).0 zero_stream)
+      not_kept (Some v) e = absurd ((kept_value (before ++ new) input (earlier before new input body state readers frames kept plan places) frames kept p v epoch.kept_well e).0 zero_stream)
 
-  pub element_leaves : HasEpoch before new input body readers frames kept plan places → (p : Place) → Has (leaving_places (before ++ new) readers frames) p → plan_element plan (partial before new input body readers frames kept plan places) (epoch_source (before ++ new) input frames kept p) ≡ stream_element (whole before new input body readers frames kept plan places) (stream_source (before ++ new) input p)
+  pub element_leaves : HasEpoch before new input body state readers frames kept plan places → (p : Place) → Has (leaving_places (before ++ new) readers frames) p → plan_element plan (partial before new input body state readers frames kept plan places) (epoch_source (before ++ new) input frames kept p) ≡ stream_element (whole before new input body state readers frames kept plan places) (stream_source (before ++ new) input p)
   element_leaves epoch p h =
       let r = of_filter (λ (p : Place). p.stream == 1 || nat_le (read_from (before ++ new) readers p.stream) p.position) (flat_map (written_places (before ++ new)) frames) p h in
       let (a, (f, at), written) = of_flat_map (written_places (before ++ new)) frames p r.0 in
       by_stream a f at written (cases_eq p.stream 0)
     where
-      by_stream : (a f : ℕ) → slice_get frames f ≡ Some a → Has (written_places (before ++ new) a) p → (p.stream ≡ 0) ⊎ (p.stream ≢ 0) → plan_element plan (partial before new input body readers frames kept plan places) (epoch_source (before ++ new) input frames kept p) ≡ stream_element (whole before new input body readers frames kept plan places) (stream_source (before ++ new) input p)
+      by_stream : (a f : ℕ) → slice_get frames f ≡ Some a → Has (written_places (before ++ new) a) p → (p.stream ≡ 0) ⊎ (p.stream ≢ 0) → plan_element plan (partial before new input body state readers frames kept plan places) (epoch_source (before ++ new) input frames kept p) ≡ stream_element (whole before new input body state readers frames kept plan places) (stream_source (before ++ new) input p)
       by_stream a f at written (inl zero_stream) = element_of_input epoch p zero_stream
       by_stream a f at written (inr other) =
           let (place, is) = written_source (before ++ new) input a p (epoch.are_open.exists f a at) written other in
           element_of_frame epoch p f a place at is
 
-  pub sink_leaves : HasEpoch before new input body readers frames kept plan places → sink_elements plan (partial before new input body readers frames kept plan places) ≡ map (λ (p : Place). stream_element (whole before new input body readers frames kept plan places) (stream_source (before ++ new) input p)) places
+  pub sink_leaves : HasEpoch before new input body state readers frames kept plan places → sink_elements plan (partial before new input body state readers frames kept plan places) ≡ map (λ (p : Place). stream_element (whole before new input body state readers frames kept plan places) (stream_source (before ++ new) input p)) places
   sink_leaves epoch =
-      ap (λ n. map (plan_element plan (partial before new input body readers frames kept plan places)) (plan_reads plan n)) epoch.stands.frames_are_these
-      ∙ ap (map (plan_element plan (partial before new input body readers frames kept plan places))) epoch.stands.sink_is_places
-      ∙ same_elements (plan_element plan (partial before new input body readers frames kept plan places)) (stream_element (whole before new input body readers frames kept plan places)) (epoch_source (before ++ new) input frames kept) (stream_source (before ++ new) input) places (λ p at. element_leaves epoch p (subst (λ (ps : List Place). Has ps p) epoch.stands.places_leave at))
+      ap (λ n. map (plan_element plan (partial before new input body state readers frames kept plan places)) (plan_reads plan n)) epoch.stands.frames_are_these
+      ∙ ap (map (plan_element plan (partial before new input body state readers frames kept plan places))) epoch.stands.sink_is_places
+      ∙ same_elements (plan_element plan (partial before new input body state readers frames kept plan places)) (stream_element (whole before new input body state readers frames kept plan places)) (epoch_source (before ++ new) input frames kept) (stream_source (before ++ new) input) places (λ p at. element_leaves epoch p (subst (λ (ps : List Place). Has ps p) epoch.stands.places_leave at))

@@ -9,7 +9,7 @@ ghost use Rattle.flow_core_laws.specs.Streams.{stream_meaning};
 ghost use Rattle.flow_core_laws.specs.IsSound.{IsSound};
 ghost use Rattle.flow_core_epochs.specs.Example as example;
 ghost use Rattle.flow_core_epochs.specs.Laws.{KeepsPrefixes, AddsUp, FramesEnd, SinkIsWhatLeaves, ReadsLieBehind, NothingAtFirst, ServesNext, CarriesOver};
-ghost use Rattle.flow_core_epochs.specs.Laws.{OutputStays, HeldAtFirst, BeginsEpoch, EndsEpoch, ServesFrames, WaitingGetsNone, AllLeaveOutNothing};
+ghost use Rattle.flow_core_epochs.specs.Laws.{AllIsAPart, EndedIsAll, OutputStays, HeldAtFirst, BeginsEpoch, EndsEpoch, ServesFrames, WaitingGetsNone, AllLeaveOutNothing};
 
 use flow_core_laws::Bodies;
 
@@ -45,9 +45,11 @@ pub fn leaving_out()
     ensures nothing { AllLeaveOutNothing }
 {}
 
-/// What is held between epochs: a run in parts comes to what all its activations mean.
+/// What is held between epochs: a run in parts comes to what all its activations mean, whatever part of that an epoch goes on from.
 pub fn run_in_epochs()
     ensures first { HeldAtFirst }
+    ensures part { AllIsAPart }
+    ensures all { EndedIsAll }
     ensures begins { BeginsEpoch }
     ensures ends { EndsEpoch }
 {}
@@ -61,7 +63,8 @@ pub fn serving<B: Bodies>(bodies: &B)
 /// epoch, into which its poison is kept, and the reader there is poisoned by it. In the other one the second writer uses up
 /// its turns, and the reader is poisoned by its number, which is 2, and not by that of its frame, which is 1.
 pub fn example()
-    ensures is_epoch { IsEpoch example.before example.new [] (example.body (Trapped 2 5) Done) (1 ∷ 2 ∷ []) (1 ∷ 2 ∷ [])
+    ensures is_epoch { IsEpoch example.before example.new [] (example.body (Trapped 2 5) Done)
+        (stream_meaning example.before [] (example.body (Trapped 2 5) Done)) (1 ∷ 2 ∷ []) (1 ∷ 2 ∷ [])
         (example.kept (Poison 0)) (example.plan (Poison 0)) example.places }
     ensures sound { IsSound (example.plan (Poison 0)) }
     ensures kept_poison { put_over (stream_meaning example.before [] (example.body (Trapped 2 5) Done)) (1 ∷ 2 ∷ [])

@@ -6,7 +6,8 @@ use Rattle.std.specs.List.{flat_map, range_with_len}
 use Rattle.flow_core_laws.specs.declared.activation.Activation.{Activation}
 use Rattle.flow_core_laws.specs.Window.{Window, producer}
 use Rattle.flow_core_epochs.specs.Epoch.{number_among, read_from, open_in, put_over, Kept, value_kept}
-use Rattle.flow_core_epochs.specs.Epoch.{epoch_meaning, AreChosen, IsKeptFor, StandsForEpoch, IsOutside}
+use Rattle.flow_core_epochs.specs.Epoch.{epoch_meaning, AreChosen, IsKeptFor, IsPartOf, StandsForEpoch, IsOutside}
+use Rattle.flow_core_laws.specs.Outcome.{State}
 use Rattle.flow_core_laws.specs.declared.plan.Plan.{Plan}
 use Rattle.flow_core_laws.specs.declared.outcome.Outcome.{Outcome}
 use Rattle.flow_core_laws.specs.IsSound.{IsSound}
@@ -101,38 +102,38 @@ EpochPlansStand =
     → cursors ≡ map (read_from activations readers) (range_with_len 0 (length layout.writers))
     → IsEpochPlanOf layout input frames kept cursors plan places → StandsForEpoch plan activations input readers frames kept places
 
--- A plan goes on where the activations before it stopped: for all activations of the layout, the first of which
--- were run and left just these frames open, and whatever their bodies, the plan's meaning put over the meaning
--- of those that were run is the meaning of all, where each kept element is what was written, a value or poison.
+-- A plan goes on from any part of what the activations before it mean: for all activations of the layout, and every such part
+-- that leaves just these frames open, and whatever their bodies, the plan's meaning put over that part is the meaning of all,
+-- where each kept element is what was written, a value or poison.
 abbrev pub GoesOn : Layout → List ℕ → List ℕ → List Kept → Plan → Type 0
 GoesOn layout input frames kept plan =
-    (before new : List Activation) (body : ℕ → List ℤ → Outcome)
-    → IsLayoutOf layout (before ++ new) → frames ≡ open_in (stream_meaning before input body) (length (before ++ new))
-    → IsKeptFor (before ++ new) input (stream_meaning before input body) frames kept → IsOutside (before ++ new) frames kept
-    → put_over (stream_meaning before input body) frames (epoch_meaning plan frames body) (length (before ++ new))
+    (before new : List Activation) (body : ℕ → List ℤ → Outcome) (state : State)
+    → IsLayoutOf layout (before ++ new) → IsPartOf state before input body → frames ≡ open_in state (length (before ++ new))
+    → IsKeptFor (before ++ new) input state frames kept → IsOutside (before ++ new) frames kept
+    → put_over state frames (epoch_meaning plan frames body) (length (before ++ new))
     ≡ stream_meaning (before ++ new) input body
 
 -- A plan also goes on if it leaves out of the readers those that get no outcome from all activations either.
 abbrev pub GoesOnFor : Layout → List ℕ → (readers frames : List ℕ) → List Kept → Plan → Type 0
 GoesOnFor layout input readers frames kept plan =
-    (before new : List Activation) (body : ℕ → List ℤ → Outcome)
-    → IsLayoutOf layout (before ++ new) → readers ≡ open_in (stream_meaning before input body) (length (before ++ new))
-    → AreChosen before new input body frames
-    → IsKeptFor (before ++ new) input (stream_meaning before input body) readers kept → IsOutside (before ++ new) frames kept
-    → put_over (stream_meaning before input body) frames (epoch_meaning plan frames body) (length (before ++ new))
+    (before new : List Activation) (body : ℕ → List ℤ → Outcome) (state : State)
+    → IsLayoutOf layout (before ++ new) → IsPartOf state before input body → readers ≡ open_in state (length (before ++ new))
+    → AreChosen before new input body state frames
+    → IsKeptFor (before ++ new) input state readers kept → IsOutside (before ++ new) frames kept
+    → put_over state frames (epoch_meaning plan frames body) (length (before ++ new))
     ≡ stream_meaning (before ++ new) input body
 
--- The plan of an epoch goes on so: where all activations of the layout are those that were run and
--- new ones, the readers are all that have no outcome yet, and what is left out of them gets none, the plan's meaning, put
--- over the meaning of those that were run, is the meaning of all, poison included.
+-- The plan of an epoch goes on so: where all activations of the layout are those that came before and new ones, a state is a
+-- part of what those before mean, the readers are all that have no outcome in it, and what is left out of them gets none, the
+-- plan's meaning, put over that state, is the meaning of all, poison included.
 abbrev pub EpochPlansGoOn : Type 0
 EpochPlansGoOn =
     (layout : Layout) (input : List ℕ) (readers frames : List ℕ) (kept : List Kept) (cursors : List ℕ) (plan : Plan) (places : List Place)
-    (before new : List Activation) (body : ℕ → List ℤ → Outcome)
+    (before new : List Activation) (body : ℕ → List ℤ → Outcome) (state : State)
     → IsLayout layout → IsLayoutOf layout (before ++ new) → AscendInLayout layout frames → WrittenOutside (before ++ new) frames kept
     → cursors ≡ map (read_from (before ++ new) readers) (range_with_len 0 (length layout.writers))
-    → readers ≡ open_in (stream_meaning before input body) (length (before ++ new)) → AreChosen before new input body frames
-    → IsKeptFor (before ++ new) input (stream_meaning before input body) readers kept
+    → IsPartOf state before input body → readers ≡ open_in state (length (before ++ new)) → AreChosen before new input body state frames
+    → IsKeptFor (before ++ new) input state readers kept
     → IsEpochPlanOf layout input frames kept cursors plan places
-    → put_over (stream_meaning before input body) frames (epoch_meaning plan frames body) (length (before ++ new))
+    → put_over state frames (epoch_meaning plan frames body) (length (before ++ new))
     ≡ stream_meaning (before ++ new) input body

@@ -34,7 +34,7 @@ kept_well = record { are_there = there; none_is_missing = frames }
     frames (suc zero) d lt = λ k e l. absurd (omega arith)
     frames (suc (suc k)) d lt = absurd (omega arith)
 
-chosen : AreChosen before new [] (body (Trapped 2 5) Done) (1 ∷ 2 ∷ [])
+chosen : AreChosen before new [] (body (Trapped 2 5) Done) (stream_meaning before [] (body (Trapped 2 5) Done)) (1 ∷ 2 ∷ [])
 unfolding windows input_places meaning rounds round
 chosen = record { are_open = wait; ascend = ascend; others_get_none = others }
   where
@@ -73,7 +73,7 @@ stands = record { frames_are_these = refl; numbers_are_theirs = refl; outputs_ar
 
 pub returns-clause-is_epoch : goal.returns-clause-is_epoch
 unfolding windows input_places meaning rounds round
-returns-clause-is_epoch c = record { readers_are_open = refl; frames_are_chosen = chosen; has_kept = kept_well; plan_stands = stands }
+returns-clause-is_epoch c = record { state_is_part = record { agrees = λ a o h. h }; readers_are_open = refl; frames_are_chosen = chosen; has_kept = kept_well; plan_stands = stands }
 
 pub returns-clause-sound : goal.returns-clause-sound
 returns-clause-sound c = IsSound-from_tests (plan (Poison 0)) refl refl refl refl refl refl refl refl refl refl refl refl refl refl

@@ -15,5 +15,5 @@ returns-clause-stands_for c = λ activations is_of is_outside.
     (c.in_ok-ready.ensures.stands_for activations is_of is_outside)
 
 pub returns-clause-adds_up : goal.returns-clause-adds_up
-returns-clause-adds_up c = λ before new body is_of are_open has_kept is_outside.
-    c.in_ok-ready.ensures.adds_up before new body is_of are_open (chosen_all before new c.args.input.now body c.args.frames.now are_open) has_kept is_outside
+returns-clause-adds_up c = λ before new body state is_of part are_open has_kept is_outside.
+    c.in_ok-ready.ensures.adds_up before new body state is_of part are_open (chosen_all before new c.args.input.now body state c.args.frames.now are_open) has_kept is_outside

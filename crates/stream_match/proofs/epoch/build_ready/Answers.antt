@@ -45,12 +45,12 @@ returns-clause-stands_for c = λ activations is_of is_outside.
     (epoch_stands layout c.requires.layout activations is_of input c.args.readers.now frames (map kept_of sorted) cursors c.requires.frames outside refl c.in_ok-epoch.epoch.plan (flat_map stretch_places c.in_ok-epoch.epoch.leaves) (c.in_ok-epoch.ensures.plan activations is_of))
 
 pub returns-clause-adds_up : goal.returns-clause-adds_up
-returns-clause-adds_up c = λ before new body is_of are_open chosen has_kept is_outside.
+returns-clause-adds_up c = λ before new body state is_of part are_open chosen has_kept is_outside.
     let frames = c.args.frames.now in
     let input = c.args.input.now in
     let kept = map kept_of c.args.kept.now in
     let plan = c.in_ok-epoch.epoch.plan in
     let places = flat_map stretch_places c.in_ok-epoch.epoch.leaves in
-    adds_up before new input body c.args.readers.now frames kept plan places
-    (has_epoch before new input body c.args.readers.now frames kept plan places
-    (record { readers_are_open = are_open; frames_are_chosen = chosen; has_kept = has_kept; plan_stands = returns-clause-stands_for c (before ++ new) is_of is_outside }))
+    adds_up before new input body state c.args.readers.now frames kept plan places
+    (has_epoch before new input body state c.args.readers.now frames kept plan places
+    (record { state_is_part = part; readers_are_open = are_open; frames_are_chosen = chosen; has_kept = has_kept; plan_stands = returns-clause-stands_for c (before ++ new) is_of is_outside }))

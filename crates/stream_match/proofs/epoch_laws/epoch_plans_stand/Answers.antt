@@ -9,8 +9,9 @@ returns-clause-stand c = λ layout input readers frames kept cursors plan places
     epoch_stands layout is activations of input readers frames kept cursors are outside cursors_are plan places laid
 
 pub returns-clause-go_on : goal.returns-clause-go_on
-returns-clause-go_on c = λ layout input readers frames kept cursors plan places before new body is of are outside cursors_are readers_are chosen kept_for laid.
-    adds_up before new input body readers frames kept plan places (has_epoch before new input body readers frames kept plan places (record {
+returns-clause-go_on c = λ layout input readers frames kept cursors plan places before new body state is of are outside cursors_are part readers_are chosen kept_for laid.
+    adds_up before new input body state readers frames kept plan places (has_epoch before new input body state readers frames kept plan places (record {
+      state_is_part = part;
       readers_are_open = readers_are;
       frames_are_chosen = chosen;
       has_kept = kept_for;
