@@ -12,10 +12,11 @@ use Rattle.std.proofs.lemmas.Option.{slice_get-get_or}
 use Rattle.epoch_run_bodies.specs.Frames.{TakesFrame, frame_outcome}
 use Rattle.epoch_run_bodies.specs.Laws.{LaterActivationsChangeNothing}
 use Rattle.flow_core_epochs.specs.Epoch as epoch
-use Rattle.flow_core_epochs.specs.Epoch.{IsCarried, IsEpoch, IsHeld, IsOutside, LeaveOutWaiting, ReadNoOutput, ServesAll, StandsForEpoch, carried_over, epoch_meaning, number_among, open_in, output_over, put_over}
+use Rattle.flow_core_epochs.specs.Epoch.{IsCarried, IsEpoch, IsHeld, IsOutside, IsPartHeld, LeaveOutWaiting, ReadNoOutput, ServesAll, StandsForEpoch, carried_over, epoch_meaning, number_among, open_in, output_over, put_over}
 use Rattle.flow_core_epochs.proofs.Choosing.{end_in}
 use Rattle.flow_core_epochs.proofs.Prefixes.{prefix_extends}
 use Rattle.flow_core_epochs.proofs.Serving.{serves_frames}
+use Rattle.flow_core_epochs.proofs.Parts.{all_is_a_part}
 use Rattle.flow_core_epochs.specs.Laws.{BeginsEpoch, EndsEpoch}
 use Rattle.flow_core_laws.specs.declared.elem.Elem.{Elem}
 use Rattle.flow_core_laws.proofs.Rounds.{length-meaning}
@@ -201,14 +202,17 @@ module _ (layout : Layout) (whole : IsLayout layout) (code : Parts) (activations
       omega (arith, positions, written_more is.before is.new)
 
   module _ (later : LaterActivationsChangeNothing) (begins : BeginsEpoch) where
-    held_now : IsHeld is.before input body held.ends.ends kept held.ends.output
-    held_now = same_held is.before input (frame_outcome code is.before budget) body held.ends.ends kept held.ends.output (later code is.before is.new input budget) is.meant.is_meant
+    abbrev state : State
+    state = stream_meaning is.before input body
+
+    held_now : IsPartHeld is.before input body state held.ends.ends kept held.ends.output
+    held_now = all_is_a_part is.before input body held.ends.ends kept held.ends.output (same_held is.before input (frame_outcome code is.before budget) body held.ends.ends kept held.ends.output (later code is.before is.new input budget) is.meant.is_meant)
 
     abbrev Opens : Type 0
-    Opens = IsOutside all frames kept × ((plan : Plan) (places : List Place) → StandsForEpoch plan all input readers frames kept places → IsEpoch is.before is.new input body readers frames kept plan places)
+    Opens = IsOutside all frames kept × ((plan : Plan) (places : List Place) → StandsForEpoch plan all input readers frames kept places → IsEpoch is.before is.new input body state readers frames kept plan places)
 
     opens : Opens
-    opens = begins is.before is.new input body held.ends.ends kept held.ends.output readers frames no_output held_now (are_open ∙ ap (open_in held.ends.ends) count) (subst (λ (xs : List Activation). LeaveOutWaiting xs input held.ends.ends frames) is.are_all leave)
+    opens = begins is.before is.new input body state held.ends.ends kept held.ends.output readers frames no_output held_now (are_open ∙ ap (open_in held.ends.ends) count) (subst (λ (xs : List Activation). LeaveOutWaiting xs input held.ends.ends frames) is.are_all leave)
 
     pub outside : IsOutside activations frames kept
     outside = subst (λ (xs : List Activation). IsOutside xs frames kept) (sym is.are_all) opens.0
@@ -290,7 +294,7 @@ module _ (layout : Layout) (whole : IsLayout layout) (code : Parts) (activations
 
             ended : IsHeld all input body put (carried_over all (open_in put (length all)) kept places ends.output) (output_over held.ends.output places ends.output (written_count all 1))
             ended =
-                ends_epoch is.before is.new input body readers frames kept plan places (opens.1 plan places all_stands) held.ends.ends held.ends.output ends held_now
+                ends_epoch is.before is.new input body state readers frames kept plan places (opens.1 plan places all_stands) held.ends.ends held.ends.output ends held_now
                 (ends_are ∙ ap (λ (b : ℕ → List ℤ → Outcome). ends_of (epoch_meaning plan frames b)) same_body)
                 (output_is ∙ ap (λ (b : ℕ → List ℤ → Outcome). sink_elements plan (epoch_meaning plan frames b)) same_body)
 
