@@ -1,0 +1,127 @@
+ghost use Rattle.std.specs.Prelude.{◌≡◌, ◌++◌, IfOk, IfSome, List, None, Option, Some, length, true};
+ghost use Rattle.flow_core_laws.specs.declared.elem.Elem.{Elem};
+ghost use Rattle.epoch_run_batches.specs.Meant.{HoldMeant, element_meant};
+ghost use Rattle.epoch_run_batches.specs.Reads.{AreRead, covered, covered_by};
+
+use crate::inputs::Inputs;
+use crate::slot::{Meaning, SlotContent, read_slot};
+use crate::streams::Streams;
+use flow_core_laws::Elem;
+use os_io::Memory;
+use std::sync::OnceLock;
+use stream_match_layouts::Span;
+
+/// Where the activations of a batch find what they read: the input, what the streams held before all batches, and the slots of all batches.
+pub struct Sources<'r, J: Meaning> {
+    pub input: &'r [u8],
+    pub before: &'r Streams,
+    pub slots: &'r [OnceLock<SlotContent<J>>],
+    pub ghost input_is: { input.now ≡ J.run.input },
+    pub ghost as_many: { length before.now.firsts ≡ length before.now.elements },
+    pub ghost before_is_meant: { HoldMeant J.run before.now },
+}
+
+impl<'r, J: Meaning> Sources<'r, J> {
+    /// Reads what spans read, in place of what was read before. It answers whether all of it is there.
+    pub(crate) fn read_all(
+        &self,
+        own: &Streams,
+        from: &[u32],
+        spans: &[Span],
+        inputs: &mut Inputs,
+    ) -> Result<bool, Memory>
+        requires as_many { length own.now.firsts ≡ length own.now.elements }
+        requires meant { HoldMeant J.run own.now }
+        ensures { IfOk result (λ there. there ≡ true → AreRead (covered_by J.run spans.now) inputs.new) }
+    {
+        inputs.clear();
+        for span in spans {
+            if !span.write {
+                let there = self.read(own, from, span, inputs)?;
+                if !there {
+                    return Ok(false);
+                }
+            }
+        }
+        Ok(true)
+    }
+
+    /// Reads what a span covers, if all of it is there.
+    fn read(
+        &self,
+        own: &Streams,
+        from: &[u32],
+        span: &Span,
+        inputs: &mut Inputs,
+    ) -> Result<bool, Memory>
+        requires as_many { length own.now.firsts ≡ length own.now.elements }
+        requires meant { HoldMeant J.run own.now }
+        ensures { IfOk result (λ there. there ≡ true → (cells : List (Option Elem)) → AreRead cells inputs.old
+            → AreRead (cells ++ covered J.run span.now) inputs.new) }
+    {
+        for k in 0..span.count {
+            let Some(position) = span.first.checked_add(u64::from(k)) else {
+                return Ok(false);
+            };
+            let Some(element) = self.find(own, from, span.stream, position) else {
+                return Ok(false);
+            };
+            inputs.add(element)?;
+        }
+        Ok(true)
+    }
+
+    /// The element at a position of a stream, if it is there.
+    fn find(&self, own: &Streams, from: &[u32], stream: u32, position: u64) -> Option<Elem>
+        requires as_many { length own.now.firsts ≡ length own.now.elements }
+        requires meant { HoldMeant J.run own.now }
+        ensures { IfSome result (λ e. element_meant J.run stream position ≡ Some e) }
+    {
+        if stream == 0 {
+            return self.find_in_input(position);
+        }
+        if let Some(element) = own.find(stream, position) {
+            return Some(element);
+        }
+        if let Some(element) = self.before.find(stream, position) {
+            return Some(element);
+        }
+        self.find_in_slots(from, stream, position)
+    }
+
+    /// The byte at a position of the input.
+    fn find_in_input(&self, position: u64) -> Option<Elem>
+        ensures { IfSome result (λ e. element_meant J.run 0 position ≡ Some e) }
+    {
+        if position >= self.input.len() as u64 {
+            return None;
+        }
+        Some(Elem::Value(i32::from(self.input[position as usize])))
+    }
+
+    /// The element at a position of a stream, if one of these slots has it.
+    fn find_in_slots(&self, from: &[u32], stream: u32, position: u64) -> Option<Elem>
+        ensures { IfSome result (λ e. element_meant J.run stream position ≡ Some e) }
+    {
+        for batch in from {
+            if let Some(slot) = self.slots.get(*batch as usize) {
+                if let Some(element) = find_in_slot(slot, stream, position) {
+                    return Some(element);
+                }
+            }
+        }
+        None
+    }
+}
+
+/// The element at a position of a stream, if a slot is full and has it.
+fn find_in_slot<J: Meaning>(
+    slot: &OnceLock<SlotContent<J>>,
+    stream: u32,
+    position: u64,
+) -> Option<Elem>
+    ensures { IfSome result (λ e. element_meant J.run stream position ≡ Some e) }
+{
+    let content = read_slot(slot)?;
+    content.outcome.wrote.find(stream, position)
+}
