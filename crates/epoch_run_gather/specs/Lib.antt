@@ -1,0 +1,3 @@
+-- What restates private functions.
+pub mod Ends
+pub mod Gathered
