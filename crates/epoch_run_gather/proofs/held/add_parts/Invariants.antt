@@ -1,5 +1,0 @@
-use Rattle.epoch_run_gather.specs.Gathered.{HaveMore}
-use Rattle.epoch_run_gather.proofs.held.add_parts.Given as goal
-
-abbrev pub invariant-loop-stream : goal.invariant-loop-stream
-invariant-loop-stream l = HaveMore l.stream l.parts l.initial.elements l.elements

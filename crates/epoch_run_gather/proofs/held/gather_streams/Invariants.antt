@@ -1,5 +1,0 @@
-use Rattle.epoch_run_gather.specs.Gathered.{AreGathered}
-use Rattle.epoch_run_gather.proofs.held.gather_streams.Given as goal
-
-abbrev pub invariant-loop-stream : goal.invariant-loop-stream
-invariant-loop-stream l = AreGathered l.firsts l.elements l.layout l.outcomes l.stream l.parts

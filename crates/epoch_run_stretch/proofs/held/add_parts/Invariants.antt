@@ -1,0 +1,5 @@
+use Rattle.epoch_run_stretch.specs.Gathered.{HaveMore}
+use Rattle.epoch_run_stretch.proofs.held.add_parts.Given as goal
+
+abbrev pub invariant-loop-stream : goal.invariant-loop-stream
+invariant-loop-stream l = HaveMore l.stream l.parts l.initial.elements l.elements
