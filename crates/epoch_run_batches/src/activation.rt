@@ -10,10 +10,11 @@ ghost use Rattle.epoch_run_batches.specs.Reads.{AreRead, covered_by};
 ghost use Rattle.epoch_run_batches.specs.Workload.{AreSpansOf, HasOutcome};
 
 use crate::inputs::Inputs;
+use crate::local_bodies::LocalBodies;
 use crate::slot::Meaning;
 use crate::sources::Sources;
 use crate::streams::Streams;
-use flow_core_laws::{Bodies, TaskEnd};
+use flow_core_laws::TaskEnd;
 use os_io::Memory;
 use std::alloc::Global;
 use stream_match_layouts::Span;
@@ -36,7 +37,7 @@ impl Buffers {
 }
 
 /// Runs an activation, if all that it reads is there, and writes what it came to. After `Memory` the streams are to be given up.
-pub(crate) fn run_one<J: Meaning, B: Bodies>(
+pub(crate) fn run_one<J: Meaning, B: LocalBodies>(
     sources: &Sources<'_, J>,
     bodies: &B,
     number: u32,
@@ -75,7 +76,7 @@ pub(crate) fn run_one<J: Meaning, B: Bodies>(
 }
 
 /// How an activation ends whose inputs were read: poisoned, where one of them is poison, and else as its body does.
-fn end_of<J: Meaning, B: Bodies>(
+fn end_of<J: Meaning, B: LocalBodies>(
     bodies: &B,
     number: u32,
     spans: &[Span],

@@ -9,23 +9,25 @@ ghost use Rattle.epoch_run_batches.specs.Workload.{IsWorkload};
 use crate::activation::{Buffers, run_one};
 use crate::batch_outcome::BatchOutcome;
 use crate::ended::Ended;
+use crate::local_bodies::LocalBodies;
 use crate::slot::Meaning;
 use crate::sources::Sources;
 use crate::streams::Streams;
-use flow_core_laws::{Bodies, Elem};
+use flow_core_laws::Elem;
 use os_io::{List, Memory};
 use std::alloc::Global;
 use stream_match_layouts::{Layout, Span};
 
 /// What batches are made of: the positions of all activations, and their bodies.
-pub struct Workload<'r, B: Bodies> {
+#[derive(Clone, Copy)]
+pub struct Workload<'r, B: LocalBodies> {
     pub layout: &'r Layout,
     pub bodies: &'r B,
 }
 
 /// Runs the activations of a batch one after the other. Each reads what earlier ones of the batch wrote and what the sources have; of the slots
 /// it looks in those of the batches `from`. An activation that doesn't find all that it reads is left out, as is a number that no activation has.
-pub fn run_batch<J: Meaning, B: Bodies>(
+pub fn run_batch<J: Meaning, B: LocalBodies>(
     alloc: Global,
     workload: &Workload<'_, B>,
     sources: &Sources<'_, J>,
@@ -49,7 +51,7 @@ pub fn run_batch<J: Meaning, B: Bodies>(
 }
 
 /// Runs activations one after the other. After `Memory` the streams are to be given up.
-fn run_numbers<J: Meaning, B: Bodies>(
+fn run_numbers<J: Meaning, B: LocalBodies>(
     workload: &Workload<'_, B>,
     sources: &Sources<'_, J>,
     numbers: &[u32],
@@ -78,7 +80,7 @@ fn run_numbers<J: Meaning, B: Bodies>(
 }
 
 /// Runs an activation, if there is one of this number and it finds what it reads.
-fn run_number<J: Meaning, B: Bodies>(
+fn run_number<J: Meaning, B: LocalBodies>(
     workload: &Workload<'_, B>,
     sources: &Sources<'_, J>,
     number: u32,

@@ -9,7 +9,7 @@
 //! spoken of. A slot that is still empty, or an element that isn't there, leaves activations out, and changes no value. `specs/Meant` and
 //! `specs/Outcome` say what this means.
 //!
-//! The bodies are any `Bodies` of `flow_core_laws`: this crate knows nothing of the machine.
+//! The bodies are any `LocalBodies`, which are the `Bodies` of `flow_core_laws` for one thread: this crate knows nothing of the machine.
 #![tactic(auto)]
 
 mod activation;
@@ -17,6 +17,7 @@ mod batch;
 mod batch_outcome;
 mod ended;
 mod inputs;
+mod local_bodies;
 mod slot;
 mod sources;
 mod streams;
@@ -27,6 +28,7 @@ pub use batch::{Workload, run_batch};
 pub use batch_outcome::BatchOutcome;
 pub use ended::Ended;
 pub use inputs::Inputs;
+pub use local_bodies::{Local, LocalBodies};
 pub use slot::{Meaning, SlotContent, fill_slot, read_slot};
 pub use sources::Sources;
 pub use streams::Streams;

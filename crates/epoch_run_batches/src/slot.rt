@@ -6,7 +6,7 @@ use std::marker::{Brand, PhantomData};
 use std::sync::OnceLock;
 
 /// The run whose batches fill some slots. Who runs batches picks it.
-pub trait Meaning: Send + Sync {
+pub trait Meaning {
     ghost use Rattle.epoch_run_batches.specs.Meant.{Run};
 
     ghost run: { Run };

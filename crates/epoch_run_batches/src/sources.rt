@@ -12,6 +12,7 @@ use std::sync::OnceLock;
 use stream_match_layouts::Span;
 
 /// Where the activations of a batch find what they read: the input, what the streams held before all batches, and the slots of all batches.
+#[derive(Drop)]
 pub struct Sources<'r, J: Meaning> {
     pub input: &'r [u8],
     pub before: &'r Streams,

@@ -12,13 +12,13 @@ pub run-end-requires-clause-taken : goal.run-end-requires-clause-taken
 run-end-requires-clause-taken g c =
     let none : c.args.inputs.now.root ≡ None = c.in_default.is in
     let count : length c.as_mut_slice.result.now ≡ sum_by write_count c.args.spans.now = ap length c.as_mut_slice.ensures.value ∙ c.in_ok-fit.ensures ∙ c.written_count-count.ensures in
-    subst (λ vs. g.B.Bodies.takes c.args.bodies.now c.args.number (length vs) (length c.as_mut_slice.result.now)) (sym c.as_slice.ensures.value)
-    (taken g.J.Meaning.run c.args.number c.args.spans.now c.requires.spans (g.B.Bodies.takes c.args.bodies.now) c.args.inputs.now (length c.as_mut_slice.result.now) c.requires.served c.requires.read none count)
+    subst (λ vs. g.B.LocalBodies.takes c.args.bodies.now c.args.number (length vs) (length c.as_mut_slice.result.now)) (sym c.as_slice.ensures.value)
+    (taken g.J.Meaning.run c.args.number c.args.spans.now c.requires.spans (g.B.LocalBodies.takes c.args.bodies.now) c.args.inputs.now (length c.as_mut_slice.result.now) c.requires.served c.requires.read none count)
 
 pub returns-clause-come : goal.returns-clause-come
 returns-clause-come g c =
     let none : c.args.inputs.now.root ≡ None = c.in_default.is in
-    let body = g.B.Bodies.outcome c.args.bodies.now in
+    let body = g.B.LocalBodies.outcome c.args.bodies.now in
     let wrote = c.run-end.new.outputs in
     let values : c.as_slice.result.now ≡ c.args.inputs.now.values.items = c.as_slice.ensures.value in
     let all : (with_items c.fit.new.into wrote).items ≡ wrote = with_items_is c.fit.new.into wrote (c.run-end.auto.outputs ∙ c.as_mut_slice.ensures.len) in

@@ -7,5 +7,5 @@ invariant-loop-number g l = record {
   as_many : length l.own.firsts ≡ length l.own.elements;
   meant : HoldMeant g.J.Meaning.run l.own;
   ends : AreEndsMeant g.J.Meaning.run l.ended;
-  fitting : g.B.Bodies.fits l.workload.bodies.now l.scratch;
+  fitting : g.B.LocalBodies.fits l.workload.bodies.now l.scratch;
 }
