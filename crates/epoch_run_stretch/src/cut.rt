@@ -89,7 +89,7 @@ impl Cut {
             let Some(writer) = writer_at(layout, span.stream, position) else {
                 return Ok(());
             };
-            self.add_batch_of(from, writer.frame, number)?;
+            self.add_batch_of(from, u32::from(writer.frame), number)?;
             position = writer.first.saturating_add(u64::from(writer.count));
         }
         Ok(())
