@@ -84,6 +84,7 @@ module _ (run : Run) (m : ℕ) (ends : List (Option TaskEnd)) (streams : Streams
           ∙ there
       by (inr past) =
           let none : get_or all (first + k) None ≡ None = get_or_past all (first + k) None (omega (arith, past, length-elements_on first_ones run.input earlier s)) in
+          let no : None ≡ Some e = sym none ∙ there in
           absurd (cc)
 
   pub holds_meant : HoldMeant run streams
@@ -94,7 +95,7 @@ module _ (run : Run) (m : ℕ) (ends : List (Option TaskEnd)) (streams : Streams
 
       of_stream : (t : ℕ) → 1 ≤ t → t < length streams.elements → slice_index_or (slice_index_or streams.elements t []) k None ≡ Some e → Goal t
       of_stream t some lt at =
-          subst (λ (as : List Activation). stream_element (stream_meaning as run.input run.body) (stream_source as run.input (place t (slice_index streams.firsts t + k))) ≡ Some e)
+          subst (λ (xs : List Activation). stream_element (stream_meaning xs run.input run.body) (stream_source xs run.input (place t (slice_index streams.firsts t + k))) ≡ Some e)
           (take-append-drop m run.activations)
           (element_stays first_ones (drop m run.activations) run.input run.body (place t (slice_index streams.firsts t + k)) e (held_at t k e some lt at))
 
