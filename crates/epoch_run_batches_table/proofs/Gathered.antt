@@ -1,5 +1,5 @@
 -- What batches came to so far, with one more.
-use Rattle.std.proofs.Common.{◌≡◌, ℕ, zero, suc, List, [], ◌∷◌, ◌++◌, subst}
+use Rattle.std.proofs.Common.{◌≡◌, zero, suc, List, [], ◌∷◌, ◌++◌, subst}
 use Rattle.epoch_run_batches.specs.Meant.{Run}
 use Rattle.epoch_run_batches.specs.declared.batch_outcome.BatchOutcome.{BatchOutcome}
 use Rattle.epoch_run_batches.specs.Outcome.{AreAllMeant, IsMeant}

@@ -1,0 +1,11 @@
+//! Batches of activations on several workers: what they come to, beside what one thread comes to that runs the plan of all activations.
+//!
+//! There is nothing here but tests.
+#![tactic(auto)]
+
+#[cfg(test)]
+mod cases;
+#[cfg(test)]
+mod empty_slots;
+#[cfg(test)]
+mod runs;
