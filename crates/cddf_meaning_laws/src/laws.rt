@@ -2,6 +2,7 @@
 
 ghost use Rattle.cddf_meaning_laws.specs.Beginning.{BodiesGiveInts, MainBeginsWithInts, TasksBeginWithInts, TasksCaptureInts};
 ghost use Rattle.cddf_meaning_laws.specs.Expressions.{ExpressionsHaveTheirNumbers};
+ghost use Rattle.cddf_meaning_laws.specs.Reading.{ReadsInts};
 
 use cddf_meaning::laws::numbers_stay_ints;
 
@@ -35,3 +36,8 @@ pub fn bodies_give_ints()
     numbers_stay_ints();
     tasks_begin_with_ints();
 }
+
+/// What activations read in the meaning are `int`s, where their bodies give `int`s for `int`s.
+pub fn activations_read_ints()
+    ensures { ReadsInts }
+{}
