@@ -1,0 +1,4 @@
+pub mod Numbers
+pub mod Beginning
+pub mod Captured
+pub mod Reading

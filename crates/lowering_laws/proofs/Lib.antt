@@ -1,0 +1,5 @@
+pub mod Accepted
+pub mod Drafted
+pub mod Created
+pub mod FewTasks
+pub mod Objects
