@@ -1,0 +1,6 @@
+-- What a reader believes: the C that is written for a code.
+pub mod Names
+pub mod Rows
+pub mod Units
+pub mod Sites
+pub mod Program

@@ -1,0 +1,98 @@
+//! A function for each unit.
+
+ghost use Rattle.std.specs.Prelude.{◌≡◌, ◌<◌, ◌++◌, length, OnOk};
+ghost use Rattle.os_code.specs.Codes.{parts_of};
+ghost use Rattle.os_code.specs.NeedTables.{IsMarked};
+ghost use Rattle.oscc_text.specs.Units.{slots, unit_head, unit_text, unit_text_at, units_text};
+
+use crate::lists::{add_parameters, add_stored_arguments};
+use crate::pieces::add_one;
+use crate::regions::{mark_starts, region_end};
+use crate::rows::add_rows;
+use os_code::{Code, CodeUnit};
+use os_io::Memory;
+use osview_text::Text;
+use std::alloc::Global;
+
+/// How many slots a unit has at most that are kept on the stack of the C program. The calls of a program of 262,144 bytes are
+/// some thousands deep at most, so that all such slots take a few megabytes of it.
+const MOST_ON_STACK: u32 = 64;
+
+/// Adds the slots of a unit, all of them 0.
+fn add_slots(told: &mut Text, count: u32) -> Result<(), Memory>
+    ensures { OnOk result (told.new ≡ told.old ++ slots count) }
+{
+    if count <= MOST_ON_STACK {
+        add_one(told, b"    int32_t v[1 + ", count, b"] = {0};\n")
+    } else {
+        add_one(
+            told,
+            b"    static int32_t v[1 + ",
+            count,
+            b"];\n    memset(v, 0, sizeof v);\n",
+        )
+    }
+}
+
+/// Adds the front of the function of a unit, up to its first row.
+fn add_head(told: &mut Text, number: usize, unit: CodeUnit) -> Result<(), Memory>
+    ensures { OnOk result (told.new ≡ told.old ++ unit_head number unit) }
+{
+    told.field(b"static int32_t unit_", number as u64)?;
+    told.add(b"(")?;
+    add_parameters(told, unit.args)?;
+    told.add(b")\n{\n")?;
+    add_slots(told, unit.slots)?;
+    add_one(
+        told,
+        b"    int32_t s[1 + ",
+        unit.stack,
+        b"];\n    size_t d = 0;\n",
+    )?;
+    add_stored_arguments(told, unit.args)
+}
+
+/// Adds the function of a unit.
+fn add_unit(
+    told: &mut Text,
+    code: &Code,
+    marks: &[bool],
+    number: usize,
+    unit: CodeUnit,
+) -> Result<(), Memory>
+    requires marked { IsMarked (parts_of code.now) marks.now }
+    requires inside { unit.start < length code.now.instrs }
+    ensures { OnOk result (told.new ≡ told.old ++ unit_text (parts_of code.now) number unit) }
+{
+    add_head(told, number, unit)?;
+    let end = region_end(code, marks, unit.start);
+    add_rows(told, code, unit.start as usize, end)?;
+    told.add(b"}\n\n")
+}
+
+/// Adds the function of the unit with a number.
+fn add_unit_at(
+    told: &mut Text,
+    code: &Code,
+    marks: &[bool],
+    number: usize,
+) -> Result<(), Memory>
+    requires marked { IsMarked (parts_of code.now) marks.now }
+    ensures { OnOk result (told.new ≡ told.old ++ unit_text_at (parts_of code.now) number) }
+{
+    match code.units.as_slice().get(number) {
+        Some(unit) => add_unit(told, code, marks, number, *unit),
+        None => Ok(()),
+    }
+}
+
+/// Adds the functions of all units.
+pub(crate) fn add_units(alloc: Global, told: &mut Text, code: &Code) -> Result<(), Memory>
+    ensures { OnOk result (told.new ≡ told.old ++ units_text (parts_of code.now)) }
+{
+    let marks = mark_starts(alloc, code)?;
+    for number in 0..code.units.len() {
+        add_unit_at(told, code, &marks, number)?;
+    }
+    Ok(())
+}

@@ -1,0 +1,463 @@
+/* The runtime of a program that oscc wrote: control-driven data flow on one thread. main creates the activations, which claim
+   their windows; then each activation runs once all that it reads is there, and what it writes may let others run. */
+#include "osrt.h"
+
+#include <setjmp.h>
+#include <signal.h>
+#include <stdio.h>
+#include <stdlib.h>
+
+enum { ACTIVATIONS = 65536, POSITIONS = 4194304, INPUT = 4194304, BUDGET = 1000000000, DEFAULT_BUDGET = 1000000 };
+enum { STATUS_USAGE = 2, STATUS_LONG = 4, STATUS_READ = 5, STATUS_WRITE = 6, STATUS_MEMORY = 7 };
+
+/* No claim, or no activation. */
+#define NONE UINT32_MAX
+
+/* How an activation ended, or main. */
+enum how { WAITS, DONE, TRAPPED, OVER_BUDGET, POISONED, LIMITED };
+
+struct end {
+    enum how how;
+    int code;
+    uint32_t line;
+};
+
+/* A window of an activation: the positions of a stream that it covers. */
+struct claim {
+    uint64_t first;
+    uint32_t activation, stream, horizon;
+    /* Of one that writes, the next one that writes its stream; of one that reads, the one that writes what is missed next. */
+    uint32_t next;
+};
+
+struct activation {
+    struct end end;
+    /* Its windows and its captured scalars, from these numbers on. */
+    uint32_t site, claim, captured;
+    /* The window in which an element is missed, and the least root of the poison that is read. */
+    uint32_t missed, root;
+    /* The activations that wait for this one: the first of them, and of one that waits the next. */
+    uint32_t waits, next;
+};
+
+struct stream {
+    uint64_t read, written;
+    int32_t *cells;
+    /* The windows that write it, the first and the last, and the first that ends behind what is read next. */
+    uint32_t first, last, at;
+};
+
+struct os_window os_windows[8];
+uint64_t os_turns;
+
+static struct claim *claims;
+static struct activation *activations;
+static int32_t *captured;
+static struct stream *streams;
+static size_t claim_count, activation_count, captured_count, position_count, input_length;
+static jmp_buf ends_here;
+static struct end ended;
+
+static _Noreturn void end_by(enum how how, int code, uint32_t line)
+{
+    ended = (struct end){how, code, line};
+    longjmp(ends_here, 1);
+}
+
+_Noreturn void os_trap(int code, uint32_t line) { end_by(TRAPPED, code, line); }
+_Noreturn void os_over_budget(void) { end_by(OVER_BUDGET, 0, 0); }
+
+static _Noreturn void no_memory(void) { exit(STATUS_MEMORY); }
+
+static _Noreturn void refuse(int status, const char *why)
+{
+    fputs(why, stderr);
+    exit(status);
+}
+
+/* Room for one more behind count members, each of this size: twice as much where there is none. */
+static void *room(void *members, size_t count, size_t size)
+{
+    if (count != 0 && (count & (count - 1)) != 0)
+        return members;
+    void *more = realloc(members, (count == 0 ? 1 : 2 * count) * size);
+    if (more == NULL)
+        no_memory();
+    return more;
+}
+
+static void *zeros(size_t count, size_t size)
+{
+    void *members = calloc(count + 1, size);
+    if (members == NULL)
+        no_memory();
+    return members;
+}
+
+/* The stream that an item or a tick picks: any but the one that is forbidden. */
+static uint32_t pick(uint32_t first, int32_t index, uint32_t forbidden, uint32_t line)
+{
+    int64_t stream = (int64_t)first + index;
+    if (stream < 0 || stream >= os_streams || stream == forbidden)
+        os_trap(OS_INDEX, line);
+    return (uint32_t)stream;
+}
+
+void os_tick(uint32_t first, int32_t index, int32_t amount)
+{
+    uint32_t stream = pick(first, index, 1, 0);
+    os_burst_in(amount, 0);
+    streams[stream].read += (uint64_t)amount;
+}
+
+/* A window behind those that write a stream. */
+static void link_writer(struct stream *stream, uint32_t number)
+{
+    if (stream->first == NONE)
+        stream->first = stream->at = number;
+    else
+        claims[stream->last].next = number;
+    stream->last = number;
+}
+
+/* A window for an item, where its stream is read or written next. */
+static void claim_for(const struct os_item *item, uint32_t picked, uint32_t horizon, uint32_t burst)
+{
+    struct stream *stream = &streams[picked];
+    claims = room(claims, claim_count, sizeof *claims);
+    claims[claim_count] = (struct claim){item->write ? stream->written : stream->read, (uint32_t)activation_count, picked, horizon, NONE};
+    if (item->write)
+        link_writer(stream, (uint32_t)claim_count);
+    *(item->write ? &stream->written : &stream->read) += burst;
+    ++claim_count;
+}
+
+void os_spawn(uint32_t number, const int32_t *operands, const int32_t *slots)
+{
+    const struct os_site *site = &os_sites[number];
+    uint32_t picked[8], horizons[8];
+    size_t sum = position_count;
+    for (uint32_t k = 0; k < site->items; ++k) {
+        const struct os_item *item = &site->item[k];
+        picked[k] = pick(item->stream, operands[2 * k], item->write ? 0 : 1, site->line);
+        horizons[k] = item->window == 0 ? 1 : (uint32_t)os_size(slots[item->window - 1], site->line);
+        if (item->write)
+            os_burst_out(operands[2 * k + 1], (int32_t)horizons[k], site->line);
+        else
+            os_burst_in(operands[2 * k + 1], site->line);
+        sum += horizons[k];
+    }
+    if (activation_count >= ACTIVATIONS)
+        end_by(LIMITED, 1, 0);
+    if (sum > POSITIONS)
+        end_by(LIMITED, 2, 0);
+    position_count = sum;
+    activations = room(activations, activation_count, sizeof *activations);
+    activations[activation_count] = (struct activation){
+        {WAITS, 0, 0}, number, (uint32_t)claim_count, (uint32_t)captured_count, (uint32_t)claim_count, NONE, NONE, NONE};
+    for (uint32_t k = 0; k < site->items; ++k)
+        claim_for(&site->item[k], picked[k], horizons[k], (uint32_t)operands[2 * k + 1]);
+    for (uint32_t k = 0; k < site->captured; ++k) {
+        captured = room(captured, captured_count, sizeof *captured);
+        captured[captured_count++] = slots[site->slot[k]];
+    }
+    ++activation_count;
+}
+
+/* How main ends: then all activations are created. */
+static struct end run_main(uint64_t turns)
+{
+    ended = (struct end){DONE, 0, 0};
+    os_turns = turns;
+    if (setjmp(ends_here) == 0)
+        os_main((int32_t)input_length);
+    return ended;
+}
+
+/* Cells for all elements that are written. */
+static void make_cells(void)
+{
+    size_t count = 0;
+    for (uint32_t k = 1; k < os_streams; ++k)
+        count += streams[k].written;
+    int32_t *cells = zeros(count, sizeof *cells);
+    for (uint32_t k = 1; k < os_streams; ++k) {
+        streams[k].cells = cells;
+        cells += streams[k].written;
+    }
+}
+
+static const struct os_site *site_of(const struct activation *one) { return &os_sites[one->site]; }
+
+static uint32_t claim_end(const struct activation *one) { return one->claim + site_of(one)->items; }
+
+static int is_written(const struct activation *one, uint32_t number) { return site_of(one)->item[number - one->claim].write; }
+
+/* Where windows that are read begin among those that write their streams. Activations come here in their order. */
+static void find_writers(const struct activation *one)
+{
+    for (uint32_t k = one->claim; k < claim_end(one); ++k) {
+        struct claim *claim = &claims[k];
+        struct stream *stream = &streams[claim->stream];
+        if (is_written(one, k))
+            continue;
+        while (stream->at != NONE && claims[stream->at].first + claims[stream->at].horizon <= claim->first)
+            stream->at = claims[stream->at].next;
+        claim->next = stream->at;
+    }
+}
+
+/* Goes on in a window to the first element that isn't there. The answer is whether all are. */
+static int pass_window(struct activation *one, struct claim *claim)
+{
+    uint64_t end = claim->first + claim->horizon;
+    if (claim->stream == 0)
+        return end <= input_length;
+    if (end > streams[claim->stream].written && claim->next == NONE)
+        return 0;
+    while (claim->next != NONE && claims[claim->next].first < end) {
+        const struct activation *writer = &activations[claims[claim->next].activation];
+        if (writer->end.how == WAITS)
+            return 0;
+        if (writer->end.how != DONE && writer->root < one->root)
+            one->root = writer->root;
+        claim->next = claims[claim->next].next;
+    }
+    return end <= streams[claim->stream].written;
+}
+
+/* Whether all that an activation reads is there. Else it waits for the one that writes what is missed, if there is one. */
+static int is_enabled(struct activation *one)
+{
+    for (; one->missed < claim_end(one); ++one->missed) {
+        struct claim *claim = &claims[one->missed];
+        if (is_written(one, one->missed) || pass_window(one, claim))
+            continue;
+        if (claim->stream != 0 && claim->next != NONE) {
+            struct activation *writer = &activations[claims[claim->next].activation];
+            one->next = writer->waits;
+            writer->waits = (uint32_t)(one - activations);
+        }
+        return 0;
+    }
+    return 1;
+}
+
+/* Whether all that goes to the output is bytes. */
+static int sends_bytes(const struct activation *one)
+{
+    for (uint32_t k = one->claim; k < claim_end(one); ++k) {
+        const int32_t *cells = streams[claims[k].stream].cells + claims[k].first;
+        for (uint32_t at = 0; claims[k].stream == 1 && at < claims[k].horizon; ++at)
+            if (cells[at] < 0 || cells[at] > 255)
+                return 0;
+    }
+    return 1;
+}
+
+/* How the body of an activation ends. */
+static struct end run_body(const struct activation *one, uint64_t budget)
+{
+    for (uint32_t k = one->claim; k < claim_end(one); ++k)
+        os_windows[k - one->claim] = (struct os_window){streams[claims[k].stream].cells + claims[k].first, claims[k].horizon};
+    ended = (struct end){DONE, 0, 0};
+    os_turns = budget;
+    if (setjmp(ends_here) == 0) {
+        site_of(one)->body(captured + one->captured);
+        if (!sends_bytes(one))
+            ended = (struct end){TRAPPED, OS_NO_BYTE, site_of(one)->line};
+    }
+    return ended;
+}
+
+static void run(struct activation *one, uint64_t budget)
+{
+    if (one->root != NONE) {
+        one->end.how = POISONED;
+        return;
+    }
+    one->end = run_body(one, budget);
+    if (one->end.how != DONE)
+        one->root = (uint32_t)(one - activations);
+}
+
+/* Runs an activation where it is enabled, and all that can run then. */
+static void run_from(uint32_t number, uint64_t budget)
+{
+    activations[number].next = NONE;
+    while (number != NONE) {
+        struct activation *one = &activations[number];
+        number = one->next;
+        if (!is_enabled(one))
+            continue;
+        run(one, budget);
+        while (one->waits != NONE) {
+            struct activation *other = &activations[one->waits];
+            uint32_t woken = one->waits;
+            one->waits = other->next;
+            other->next = number;
+            number = woken;
+        }
+    }
+}
+
+/* Writes the output up to the first element that isn't there. */
+static size_t write_output(void)
+{
+    static unsigned char bytes[65536];
+    size_t count = 0;
+    for (uint32_t k = streams[1].first; k != NONE && activations[claims[k].activation].end.how == DONE; k = claims[k].next) {
+        const int32_t *cells = streams[1].cells + claims[k].first;
+        for (uint32_t at = 0; at < claims[k].horizon; ++at)
+            bytes[at] = (unsigned char)cells[at];
+        if (fwrite(bytes, 1, claims[k].horizon, stdout) != claims[k].horizon)
+            exit(STATUS_WRITE);
+        count += claims[k].horizon;
+    }
+    if (fflush(stdout) != 0)
+        exit(STATUS_WRITE);
+    return count;
+}
+
+static void tell_starved(uint32_t number, const struct activation *one)
+{
+    const struct claim *claim = &claims[one->missed];
+    uint64_t behind = claim->stream == 0 ? input_length : streams[claim->stream].written;
+    int has_writer = claim->stream != 0 && claim->next != NONE;
+    uint64_t from = has_writer ? claims[claim->next].first : behind;
+    fprintf(stderr, "starved %lu stream %lu position %llu producer ", (unsigned long)number, (unsigned long)claim->stream,
+            (unsigned long long)(from > claim->first ? from : claim->first));
+    if (has_writer)
+        fprintf(stderr, "%lu starved\n", (unsigned long)claims[claim->next].activation);
+    else
+        fputs("none\n", stderr);
+}
+
+static void tell_activation(uint32_t number, const struct activation *one)
+{
+    unsigned long name = number;
+    switch (one->end.how) {
+    case TRAPPED:
+        fprintf(stderr, "trapped %lu code %d line %lu\n", name, one->end.code, (unsigned long)one->end.line);
+        break;
+    case OVER_BUDGET:
+        fprintf(stderr, "over-budget %lu\n", name);
+        break;
+    case POISONED:
+        fprintf(stderr, "poisoned %lu by %lu\n", name, (unsigned long)one->root);
+        break;
+    case WAITS:
+        tell_starved(number, one);
+        break;
+    default:
+        break;
+    }
+}
+
+static void tell_control(struct end end)
+{
+    if (end.how == DONE)
+        fputs("control done\n", stderr);
+    else if (end.how == TRAPPED)
+        fprintf(stderr, "control trapped code %d line %lu\n", end.code, (unsigned long)end.line);
+    else if (end.how == OVER_BUDGET)
+        fputs("control over-budget\n", stderr);
+    else
+        fprintf(stderr, "control limit %d\n", end.code);
+}
+
+/* Reads the bytes of the input into the cells of stream 0. */
+static void read_input(const char *name)
+{
+    static unsigned char bytes[65536];
+    FILE *file = fopen(name, "rb");
+    if (file == NULL)
+        refuse(STATUS_READ, "read fault input\n");
+    for (size_t count; (count = fread(bytes, 1, sizeof bytes, file)) != 0;) {
+        if (count > INPUT - input_length)
+            refuse(STATUS_LONG, "too long input\n");
+        for (size_t at = 0; at < count; ++at) {
+            streams[0].cells = room(streams[0].cells, input_length, sizeof *streams[0].cells);
+            streams[0].cells[input_length++] = bytes[at];
+        }
+    }
+    if (ferror(file))
+        refuse(STATUS_READ, "read fault input\n");
+    fclose(file);
+}
+
+/* A number of turns, in decimals behind one + or none. */
+static int64_t turns_of(const char *word)
+{
+    int64_t turns = 0;
+    word += *word == '+';
+    if (*word == 0)
+        return -1;
+    for (; *word >= '0' && *word <= '9' && turns <= BUDGET; ++word)
+        turns = 10 * turns + (*word - '0');
+    return *word == 0 && turns <= BUDGET ? turns : -1;
+}
+
+/* The value of an option: what stands behind the equals sign, or the next word. */
+static int take_option(const char *name, char **words, int *at, int64_t *turns)
+{
+    size_t length = strlen(name);
+    const char *value;
+    if (strncmp(words[*at], name, length) != 0)
+        return 0;
+    if (words[*at][length] == '=')
+        value = words[*at] + length + 1;
+    else if (words[*at][length] == 0 && words[*at + 1] != NULL)
+        value = words[++*at];
+    else
+        return 0;
+    if (*turns >= 0 || (*turns = turns_of(value)) < 0)
+        refuse(STATUS_USAGE, "usage\n");
+    return 1;
+}
+
+int main(int argc, char **words)
+{
+    static char reported[65536];
+    const char *name = NULL;
+    int64_t budget = -1, control = -1;
+    int names_alone = 0, failed;
+#ifdef SIGPIPE
+    signal(SIGPIPE, SIG_IGN);
+#endif
+    for (int at = 1; at < argc; ++at) {
+        if (!names_alone && (take_option("--budget", words, &at, &budget) || take_option("--control", words, &at, &control)))
+            continue;
+        if (!names_alone && strcmp(words[at], "--") == 0)
+            names_alone = 1;
+        else if (name != NULL || (!names_alone && words[at][0] == '-' && words[at][1] != 0))
+            refuse(STATUS_USAGE, "usage\n");
+        else
+            name = words[at];
+    }
+    if (name == NULL)
+        refuse(STATUS_USAGE, "usage\n");
+    uint64_t turns = budget < 0 ? DEFAULT_BUDGET : (uint64_t)budget;
+    streams = zeros(os_streams, sizeof *streams);
+    for (uint32_t k = 0; k < os_streams; ++k)
+        streams[k].first = streams[k].last = streams[k].at = NONE;
+    read_input(name);
+    struct end end = run_main(control < 0 ? DEFAULT_BUDGET : (uint64_t)control);
+    make_cells();
+    for (uint32_t k = 0; k < activation_count; ++k) {
+        find_writers(&activations[k]);
+        run_from(k, turns);
+    }
+    size_t count = write_output();
+    setvbuf(stderr, reported, _IOFBF, sizeof reported);
+    failed = end.how != DONE;
+    for (uint32_t k = 0; k < activation_count; ++k) {
+        failed |= activations[k].end.how != DONE;
+        tell_activation(k, &activations[k]);
+    }
+    tell_control(end);
+    fprintf(stderr, "output %lu of %lu\n", (unsigned long)count, (unsigned long)streams[1].written);
+    if (fflush(stderr) != 0 || ferror(stderr))
+        exit(STATUS_WRITE);
+    return failed;
+}
