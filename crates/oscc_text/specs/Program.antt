@@ -1,7 +1,7 @@
 -- The C of a code.
 use Rattle.std.specs.Prelude.{ℕ, List, ◌++◌, codes}
 use Rattle.std.specs.Fmt.{decimal}
-use Rattle.os_code.specs.Parts.{Parts}
+use Rattle.os_code.specs.declared.parts.Parts.{Parts}
 use Rattle.oscc_text.specs.Units.{units_text}
 use Rattle.oscc_text.specs.Sites.{sites_text, table_text}
 

@@ -1,6 +1,6 @@
 -- The C of an instruction: a row of C for each. In the function of a unit, `v` is its slots, `s` its operand stack and `d` the height of
 -- that; `os_windows` are the windows of the task that runs. What begins with `os_` is the runtime's, `runtime/osrt.h`.
-use Rattle.std.specs.Prelude.{ℕ, ◌==◌, List, [], ◌++◌, length, Option, Some, None, codes, if◌then◌else◌, ℤ}
+use Rattle.std.specs.Prelude.{ℕ, ◌==◌, List, [], ◌++◌, Option, Some, None, codes, if◌then◌else◌, ℤ}
 use Rattle.std.specs.Fmt.{decimal, signed_decimal}
 use Rattle.std.specs.List.{flat_map, range_with_len}
 use Rattle.std.specs.Option.{option_map_or}
@@ -10,19 +10,15 @@ use Rattle.os_code.specs.declared.instr.Instr.{Instr}
 use Rattle.os_code.specs.declared.instr.Instr.TheVariants.{Push, Drop, Copy, Load, Store, Zero, CheckAt, LoadAt, StoreAt, ItemCheck, ItemLoad}
 use Rattle.os_code.specs.declared.instr.Instr.TheVariants.{ItemStore, Unary, Binary, Jump, JumpZero, Turn, Call, Return, End, Window, BurstIn}
 use Rattle.os_code.specs.declared.instr.Instr.TheVariants.{BurstOut, Spawn, Tick}
-use Rattle.os_code.specs.declared.site.Site.{Site}
 use Rattle.os_code.specs.declared.unit.CodeUnit.{CodeUnit}
-use Rattle.os_code.specs.Parts.{Parts, instr_at, unit_at, site_at}
+use Rattle.os_code.specs.declared.parts.Parts.{Parts}
+use Rattle.os_code.specs.Parts.{instr_at, unit_at}
 use Rattle.oscc_text.specs.Names.{unary_name, binary_name}
 
--- how many arguments a unit takes, and how many items a site has
+-- how many arguments a unit takes
 abbrev pub args_of : Option CodeUnit → ℕ
 args_of (Some unit) = unit.args
 args_of None = 0
-
-abbrev pub items_of : Option Site → ℕ
-items_of (Some site) = length site.items
-items_of None = 0
 
 -- what stands before a member of a list, by its number
 abbrev pub comma : ℕ → List ℕ
@@ -35,12 +31,11 @@ operand number = comma number ++ codes "s[d + " ++ decimal number ++ codes "]"
 abbrev pub operands : ℕ → List ℕ
 operands count = flat_map operand (range_with_len 0 count)
 
-abbrev pub call_row : (unit args : ℕ) → List ℕ
-call_row unit args =
-    codes "d -= " ++ decimal args ++ codes "; s[d] = unit_" ++ decimal unit ++ codes "(" ++ operands args ++ codes "); ++d;"
+abbrev pub call_head : (unit args : ℕ) → List ℕ
+call_head unit args = codes "d -= " ++ decimal args ++ codes "; s[d] = unit_" ++ decimal unit ++ codes "("
 
-abbrev pub spawn_row : (site items : ℕ) → List ℕ
-spawn_row site items = codes "d -= 2 * " ++ decimal items ++ codes "; os_spawn(" ++ decimal site ++ codes ", s + d, v);"
+abbrev pub call_row : (unit args : ℕ) → List ℕ
+call_row unit args = call_head unit args ++ operands args ++ codes "); ++d;"
 
 -- slots that are set to 0
 abbrev pub zero_row : (first count : ℕ) → List ℕ
@@ -104,7 +99,7 @@ row code End = codes "return 0;"
 row code (Window slot line) = codes "--d; v[" ++ decimal slot ++ codes "] = os_size(s[d], " ++ decimal line ++ codes ");"
 row code (BurstIn line) = codes "os_burst_in(s[d - 1], " ++ decimal line ++ codes ");"
 row code (BurstOut slot line) = codes "os_burst_out(s[d - 1], v[" ++ decimal slot ++ codes "], " ++ decimal line ++ codes ");"
-row code (Spawn site) = spawn_row site (items_of (site_at code site))
+row code (Spawn site) = codes "d -= 2 * os_sites[" ++ decimal site ++ codes "].items; os_spawn(" ++ decimal site ++ codes ", s + d, v);"
 row code (Tick first) = codes "d -= 2; os_tick(" ++ decimal first ++ codes ", s[d], s[d + 1]);"
 
 -- The row of a place, behind the label that jumps go to.

@@ -5,7 +5,8 @@ use Rattle.std.specs.List.{flat_map, range_with_len}
 use Rattle.std.specs.Option.{option_map_or}
 use Rattle.os_code.specs.declared.site.Site.{Site}
 use Rattle.os_code.specs.declared.site.SiteItem.{SiteItem}
-use Rattle.os_code.specs.Parts.{Parts, site_at}
+use Rattle.os_code.specs.declared.parts.Parts.{Parts}
+use Rattle.os_code.specs.Parts.{site_at}
 use Rattle.oscc_text.specs.Rows.{comma}
 
 -- An item: 1 for an output item and else 0, its stream, and its window: 0, or the slot plus 1.
@@ -31,10 +32,12 @@ scalar number = comma number ++ codes "c[" ++ decimal number ++ codes "]"
 abbrev pub scalars : ℕ → List ℕ
 scalars count = flat_map scalar (range_with_len 0 count)
 
-abbrev pub body_text : (number : ℕ) → Site → List ℕ
-body_text number site =
+abbrev pub body_head : (number : ℕ) → Site → List ℕ
+body_head number site =
     codes "static void site_" ++ decimal number ++ codes "(const int32_t *c)\n{\n    (void)c;\n    unit_" ++ decimal site.unit ++ codes "("
-    ++ scalars (length site.captured) ++ codes ");\n}\n\n"
+
+abbrev pub body_text : (number : ℕ) → Site → List ℕ
+body_text number site = body_head number site ++ scalars (length site.captured) ++ codes ");\n}\n\n"
 
 -- The lists of a site, each with zeros behind its members.
 abbrev pub items_text : (number : ℕ) → Site → List ℕ
@@ -52,10 +55,16 @@ abbrev pub site_text_at : Parts → ℕ → List ℕ
 site_text_at code number = option_map_or (site_text number) (site_at code number) []
 
 -- A line of the table: the body, the line, how many items and captured slots there are, and the two lists.
-abbrev pub site_line : (number : ℕ) → Site → List ℕ
-site_line number site =
+abbrev pub site_counts : (number : ℕ) → Site → List ℕ
+site_counts number site =
     codes "    {site_" ++ decimal number ++ codes ", " ++ decimal site.line ++ codes ", " ++ decimal (length site.items) ++ codes ", "
-    ++ decimal (length site.captured) ++ codes ", items_" ++ decimal number ++ codes ", captured_" ++ decimal number ++ codes "},\n"
+
+abbrev pub site_lists : (number : ℕ) → Site → List ℕ
+site_lists number site =
+    decimal (length site.captured) ++ codes ", items_" ++ decimal number ++ codes ", captured_" ++ decimal number ++ codes "},\n"
+
+abbrev pub site_line : (number : ℕ) → Site → List ℕ
+site_line number site = site_counts number site ++ site_lists number site
 
 abbrev pub site_line_at : Parts → ℕ → List ℕ
 site_line_at code number = option_map_or (site_line number) (site_at code number) []

@@ -4,7 +4,8 @@ use Rattle.std.specs.Fmt.{decimal}
 use Rattle.std.specs.List.{flat_map, range_with_len}
 use Rattle.std.specs.Option.{option_map_or}
 use Rattle.os_code.specs.declared.unit.CodeUnit.{CodeUnit}
-use Rattle.os_code.specs.Parts.{Parts, unit_at, region_end}
+use Rattle.os_code.specs.declared.parts.Parts.{Parts}
+use Rattle.os_code.specs.Parts.{unit_at, region_end}
 use Rattle.oscc_text.specs.Rows.{comma, rows}
 
 -- The arguments, and the slots that they are stored in.
@@ -31,10 +32,14 @@ slots count =
     else codes "    static int32_t v[1 + " ++ decimal count ++ codes "];\n    memset(v, 0, sizeof v);\n"
 
 -- The function of a unit. Its slots are 0 but for the arguments, and its operand stack is empty.
+abbrev pub signature : (number args : ℕ) → List ℕ
+signature number args = codes "static int32_t unit_" ++ decimal number ++ codes "(" ++ parameters args ++ codes ")\n{\n"
+
+abbrev pub operand_stack : ℕ → List ℕ
+operand_stack most = codes "    int32_t s[1 + " ++ decimal most ++ codes "];\n    size_t d = 0;\n"
+
 abbrev pub unit_head : (number : ℕ) → CodeUnit → List ℕ
-unit_head number unit =
-    codes "static int32_t unit_" ++ decimal number ++ codes "(" ++ parameters unit.args ++ codes ")\n{\n" ++ slots unit.slots
-    ++ codes "    int32_t s[1 + " ++ decimal unit.stack ++ codes "];\n    size_t d = 0;\n" ++ stored_arguments unit.args
+unit_head number unit = signature number unit.args ++ slots unit.slots ++ operand_stack unit.stack ++ stored_arguments unit.args
 
 abbrev pub unit_text : Parts → (number : ℕ) → CodeUnit → List ℕ
 unit_text code number unit =

@@ -1,6 +1,7 @@
 //! Lists of arguments, by their number.
 
 ghost use Rattle.std.specs.Prelude.{◌≡◌, ◌++◌, OnOk};
+ghost use Rattle.std.specs.Fmt.{decimal};
 ghost use Rattle.oscc_text.specs.Rows.{comma, operand, operands};
 ghost use Rattle.oscc_text.specs.Sites.{scalar, scalars};
 ghost use Rattle.oscc_text.specs.Units.{parameter, parameters, stored_argument, stored_arguments};
@@ -16,12 +17,31 @@ fn comma(number: u64) -> &'static [u8]
     if number == 0 { b"" } else { b", " }
 }
 
+/// Adds a number between bytes, behind what stands before it.
+fn add_after(
+    told: &mut Text,
+    comma: &[u8],
+    before: &[u8],
+    number: u64,
+    behind: &[u8],
+) -> Result<(), Memory>
+    ensures { OnOk result (told.new ≡ told.old ++ (comma.now ++ before.now ++ decimal number ++ behind.now)) }
+{
+    told.add(comma)?;
+    add_one(told, before, number, behind)
+}
+
 /// Adds an argument of a call.
 fn add_operand(told: &mut Text, number: u32) -> Result<(), Memory>
     ensures { OnOk result (told.new ≡ told.old ++ operand number) }
 {
-    told.add(comma(u64::from(number)))?;
-    add_one(told, b"s[d + ", number, b"]")
+    add_after(
+        told,
+        comma(u64::from(number)),
+        b"s[d + ",
+        u64::from(number),
+        b"]",
+    )
 }
 
 /// Adds the arguments of a call, which are the topmost operands.
@@ -38,9 +58,7 @@ pub(crate) fn add_operands(told: &mut Text, count: u32) -> Result<(), Memory>
 fn add_scalar(told: &mut Text, number: usize) -> Result<(), Memory>
     ensures { OnOk result (told.new ≡ told.old ++ scalar number) }
 {
-    told.add(comma(number as u64))?;
-    told.field(b"c[", number as u64)?;
-    told.add(b"]")
+    add_after(told, comma(number as u64), b"c[", number as u64, b"]")
 }
 
 /// Adds the arguments of the call of a body, which are the captured scalars.
@@ -78,7 +96,14 @@ pub(crate) fn add_parameters(told: &mut Text, count: u32) -> Result<(), Memory>
 fn add_stored(told: &mut Text, number: u32) -> Result<(), Memory>
     ensures { OnOk result (told.new ≡ told.old ++ stored_argument number) }
 {
-    add_two(told, b"    v[", number, b"] = a", number, b";\n")
+    add_two(
+        told,
+        b"    v[",
+        u64::from(number),
+        b"] = a",
+        u64::from(number),
+        b";\n",
+    )
 }
 
 /// Adds the stores of the arguments in their slots.

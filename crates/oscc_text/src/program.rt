@@ -17,9 +17,9 @@ fn add_main(told: &mut Text, code: &Code) -> Result<(), Memory>
     add_two(
         told,
         b"const uint32_t os_streams = ",
-        code.streams,
+        u64::from(code.streams),
         b";\n\nvoid os_main(int32_t length)\n{\n    unit_",
-        code.main,
+        u64::from(code.main),
         b"(length);\n}\n",
     )
 }

@@ -2,13 +2,13 @@
 
 ghost use Rattle.std.specs.Prelude.{◌≡◌, ◌≤◌, ◌-◌, ◌++◌, OnOk};
 ghost use Rattle.os_code.specs.Codes.{parts_of};
-ghost use Rattle.os_code.specs.Parts.{site_at, unit_at};
-ghost use Rattle.oscc_text.specs.Rows.{args_of, binary_row, call_row, item_load_row, item_store_row, items_of, labelled, load_row};
-ghost use Rattle.oscc_text.specs.Rows.{push_row, row, row_at, rows, spawn_row, store_row, unary_row, zero_row};
+ghost use Rattle.os_code.specs.Parts.{unit_at};
+ghost use Rattle.oscc_text.specs.Rows.{args_of, binary_row, call_row, item_load_row, item_store_row, labelled, load_row};
+ghost use Rattle.oscc_text.specs.Rows.{push_row, row, row_at, rows, store_row, unary_row, zero_row};
 
 use crate::lists::add_operands;
 use crate::names::{binary_name, unary_name};
-use crate::pieces::{add_one, add_two};
+use crate::pieces::{add_named, add_one, add_three, add_two};
 use os_code::{Binary, Code, Instr, Unary};
 use os_io::Memory;
 use osview_text::Text;
@@ -23,21 +23,18 @@ fn args_of(code: &Code, unit: u32) -> u32
     }
 }
 
-/// How many items a site has.
-fn items_of(code: &Code, site: u32) -> usize
-    ensures { result ≡ items_of (site_at (parts_of code.now) site) }
-{
-    match code.sites.as_slice().get(site as usize) {
-        Some(site) => site.items.len(),
-        None => 0,
-    }
-}
-
 /// Adds the row of a call.
 fn add_call(told: &mut Text, unit: u32, args: u32) -> Result<(), Memory>
     ensures { OnOk result (told.new ≡ told.old ++ call_row unit args) }
 {
-    add_two(told, b"d -= ", args, b"; s[d] = unit_", unit, b"(")?;
+    add_two(
+        told,
+        b"d -= ",
+        u64::from(args),
+        b"; s[d] = unit_",
+        u64::from(unit),
+        b"(",
+    )?;
     add_operands(told, args)?;
     told.add(b"); ++d;")
 }
@@ -47,18 +44,17 @@ fn add_zero(told: &mut Text, first: u32, count: u32) -> Result<(), Memory>
     ensures { OnOk result (told.new ≡ told.old ++ zero_row first count) }
 {
     if count == 1 {
-        add_one(told, b"v[", first, b"] = 0;")
+        add_one(told, b"v[", u64::from(first), b"] = 0;")
     } else {
-        add_two(told, b"memset(v + ", first, b", 0, ", count, b" * sizeof *v);")
+        add_two(
+            told,
+            b"memset(v + ",
+            u64::from(first),
+            b", 0, ",
+            u64::from(count),
+            b" * sizeof *v);",
+        )
     }
-}
-
-/// Adds the row that creates an activation.
-fn add_spawn(told: &mut Text, site: u32, items: usize) -> Result<(), Memory>
-    ensures { OnOk result (told.new ≡ told.old ++ spawn_row site items) }
-{
-    told.field(b"d -= 2 * ", items as u64)?;
-    add_one(told, b"; os_spawn(", site, b", s + d, v);")
 }
 
 /// Adds the row that pushes a number.
@@ -74,47 +70,74 @@ fn add_push(told: &mut Text, number: i32) -> Result<(), Memory>
 fn add_unary(told: &mut Text, op: Unary, line: u32) -> Result<(), Memory>
     ensures { OnOk result (told.new ≡ told.old ++ unary_row op line) }
 {
-    told.add(b"s[d - 1] = ")?;
-    told.add(unary_name(op))?;
-    add_one(told, b"(s[d - 1], ", line, b");")
+    add_named(
+        told,
+        b"s[d - 1] = ",
+        unary_name(op),
+        b"(s[d - 1], ",
+        u64::from(line),
+        b");",
+    )
 }
 
 /// Adds the row of an operator with two operands.
 fn add_binary(told: &mut Text, op: Binary, line: u32) -> Result<(), Memory>
     ensures { OnOk result (told.new ≡ told.old ++ binary_row op line) }
 {
-    told.add(b"--d; s[d - 1] = ")?;
-    told.add(binary_name(op))?;
-    add_one(told, b"(s[d - 1], s[d], ", line, b");")
+    add_named(
+        told,
+        b"--d; s[d - 1] = ",
+        binary_name(op),
+        b"(s[d - 1], s[d], ",
+        u64::from(line),
+        b");",
+    )
 }
 
 /// Adds the row that loads a slot by an index.
 fn add_load(told: &mut Text, first: u32, size: u32, line: u32) -> Result<(), Memory>
     ensures { OnOk result (told.new ≡ told.old ++ load_row first size line) }
 {
-    told.field(b"s[d - 1] = v[", u64::from(first))?;
-    add_two(told, b" + os_index(s[d - 1], ", size, b", ", line, b")];")
+    add_three(
+        told,
+        b"s[d - 1] = v[",
+        u64::from(first),
+        b" + os_index(s[d - 1], ",
+        u64::from(size),
+        b", ",
+        u64::from(line),
+        b")];",
+    )
 }
 
 /// Adds the row that stores in a slot by an index.
 fn add_store(told: &mut Text, first: u32, size: u32, line: u32) -> Result<(), Memory>
     ensures { OnOk result (told.new ≡ told.old ++ store_row first size line) }
 {
-    told.field(b"d -= 2; v[", u64::from(first))?;
-    add_two(told, b" + os_index(s[d], ", size, b", ", line, b")] = s[d + 1];")
+    add_three(
+        told,
+        b"d -= 2; v[",
+        u64::from(first),
+        b" + os_index(s[d], ",
+        u64::from(size),
+        b", ",
+        u64::from(line),
+        b")] = s[d + 1];",
+    )
 }
 
 /// Adds the row that loads an element of a window.
 fn add_item_load(told: &mut Text, item: u32, line: u32) -> Result<(), Memory>
     ensures { OnOk result (told.new ≡ told.old ++ item_load_row item line) }
 {
-    told.field(b"s[d - 1] = os_windows[", u64::from(item))?;
-    add_two(
+    add_three(
         told,
+        b"s[d - 1] = os_windows[",
+        u64::from(item),
         b"].at[os_index(s[d - 1], os_windows[",
-        item,
+        u64::from(item),
         b"].size, ",
-        line,
+        u64::from(line),
         b")];",
     )
 }
@@ -123,13 +146,14 @@ fn add_item_load(told: &mut Text, item: u32, line: u32) -> Result<(), Memory>
 fn add_item_store(told: &mut Text, item: u32, line: u32) -> Result<(), Memory>
     ensures { OnOk result (told.new ≡ told.old ++ item_store_row item line) }
 {
-    told.field(b"d -= 2; os_windows[", u64::from(item))?;
-    add_two(
+    add_three(
         told,
+        b"d -= 2; os_windows[",
+        u64::from(item),
         b"].at[os_index(s[d], os_windows[",
-        item,
+        u64::from(item),
         b"].size, ",
-        line,
+        u64::from(line),
         b")] = s[d + 1];",
     )
 }
@@ -142,46 +166,72 @@ fn add_row(told: &mut Text, code: &Code, instr: Instr) -> Result<(), Memory>
         Instr::Push(number) => add_push(told, number),
         Instr::Drop => told.add(b"--d;"),
         Instr::Copy => told.add(b"s[d] = s[d - 1]; ++d;"),
-        Instr::Load(slot) => add_one(told, b"s[d++] = v[", slot, b"];"),
-        Instr::Store(slot) => add_one(told, b"v[", slot, b"] = s[--d];"),
+        Instr::Load(slot) => add_one(told, b"s[d++] = v[", u64::from(slot), b"];"),
+        Instr::Store(slot) => add_one(told, b"v[", u64::from(slot), b"] = s[--d];"),
         Instr::Zero { first, count } => add_zero(told, first, count),
         Instr::CheckAt { size, line } => {
-            add_two(told, b"os_index(s[d - 1], ", size, b", ", line, b");")
+            add_two(
+                told,
+                b"os_index(s[d - 1], ",
+                u64::from(size),
+                b", ",
+                u64::from(line),
+                b");",
+            )
         }
         Instr::LoadAt { first, size, line } => add_load(told, first, size, line),
         Instr::StoreAt { first, size, line } => add_store(told, first, size, line),
         Instr::ItemCheck { item, line } => add_two(
             told,
             b"os_index(s[d - 1], os_windows[",
-            item,
+            u64::from(item),
             b"].size, ",
-            line,
+            u64::from(line),
             b");",
         ),
         Instr::ItemLoad { item, line } => add_item_load(told, item, line),
         Instr::ItemStore { item, line } => add_item_store(told, item, line),
         Instr::Unary { op, line } => add_unary(told, op, line),
         Instr::Binary { op, line } => add_binary(told, op, line),
-        Instr::Jump(to) => add_one(told, b"goto L", to, b";"),
-        Instr::JumpZero(to) => add_one(told, b"if (s[--d] == 0) goto L", to, b";"),
+        Instr::Jump(to) => add_one(told, b"goto L", u64::from(to), b";"),
+        Instr::JumpZero(to) => add_one(told, b"if (s[--d] == 0) goto L", u64::from(to), b";"),
         Instr::Turn => told.add(b"os_turn();"),
         Instr::Call(unit) => add_call(told, unit, args_of(code, unit)),
         Instr::Return => told.add(b"return s[d - 1];"),
         Instr::End => told.add(b"return 0;"),
         Instr::Window { slot, line } => {
-            add_two(told, b"--d; v[", slot, b"] = os_size(s[d], ", line, b");")
+            add_two(
+                told,
+                b"--d; v[",
+                u64::from(slot),
+                b"] = os_size(s[d], ",
+                u64::from(line),
+                b");",
+            )
         }
-        Instr::BurstIn { line } => add_one(told, b"os_burst_in(s[d - 1], ", line, b");"),
+        Instr::BurstIn { line } => add_one(told, b"os_burst_in(s[d - 1], ", u64::from(line), b");"),
         Instr::BurstOut { slot, line } => add_two(
             told,
             b"os_burst_out(s[d - 1], v[",
-            slot,
+            u64::from(slot),
             b"], ",
-            line,
+            u64::from(line),
             b");",
         ),
-        Instr::Spawn(site) => add_spawn(told, site, items_of(code, site)),
-        Instr::Tick(first) => add_one(told, b"d -= 2; os_tick(", first, b", s[d], s[d + 1]);"),
+        Instr::Spawn(site) => add_two(
+            told,
+            b"d -= 2 * os_sites[",
+            u64::from(site),
+            b"].items; os_spawn(",
+            u64::from(site),
+            b", s + d, v);",
+        ),
+        Instr::Tick(first) => add_one(
+            told,
+            b"d -= 2; os_tick(",
+            u64::from(first),
+            b", s[d], s[d + 1]);",
+        ),
     }
 }
 
@@ -189,8 +239,7 @@ fn add_row(told: &mut Text, code: &Code, instr: Instr) -> Result<(), Memory>
 fn add_labelled(told: &mut Text, code: &Code, place: usize, instr: Instr) -> Result<(), Memory>
     ensures { OnOk result (told.new ≡ told.old ++ labelled (parts_of code.now) place instr) }
 {
-    told.field(b"L", place as u64)?;
-    told.add(b": ")?;
+    add_one(told, b"L", place as u64, b": ")?;
     add_row(told, code, instr)?;
     told.add(b"\n")
 }
@@ -206,12 +255,7 @@ fn add_row_at(told: &mut Text, code: &Code, place: usize) -> Result<(), Memory>
 }
 
 /// Adds the rows of the places from one to another.
-pub(crate) fn add_rows(
-    told: &mut Text,
-    code: &Code,
-    first: usize,
-    end: usize,
-) -> Result<(), Memory>
+pub(crate) fn add_rows(told: &mut Text, code: &Code, first: usize, end: usize) -> Result<(), Memory>
     requires { first ≤ end }
     ensures { OnOk result (told.new ≡ told.old ++ rows (parts_of code.now) first (end - first)) }
 {

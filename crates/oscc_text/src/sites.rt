@@ -3,11 +3,12 @@
 ghost use Rattle.std.specs.Prelude.{◌≡◌, ◌++◌, OnOk};
 ghost use Rattle.std.specs.List.{flat_map};
 ghost use Rattle.os_code.specs.Codes.{parts_of};
-ghost use Rattle.oscc_text.specs.Sites.{body_text, captured_text, item_text, items_text, site_line, site_line_at, site_lines};
+ghost use Rattle.oscc_text.specs.Sites.{body_text, captured_text, item_text, items_text, site_counts, site_line, site_line_at};
+ghost use Rattle.oscc_text.specs.Sites.{site_lines, site_lists};
 ghost use Rattle.oscc_text.specs.Sites.{site_text, site_text_at, sites_text, slot_text, table_text, window_number, write_text};
 
 use crate::lists::add_scalars;
-use crate::pieces::add_one;
+use crate::pieces::{add_one, add_three, add_two};
 use os_code::{Code, Site, SiteItem};
 use os_io::Memory;
 use osview_text::Text;
@@ -33,10 +34,14 @@ fn window_number(window: Option<u32>) -> u64
 fn add_item(told: &mut Text, item: SiteItem) -> Result<(), Memory>
     ensures { OnOk result (told.new ≡ told.old ++ item_text item) }
 {
-    told.add(write_text(item.write))?;
-    told.number(u64::from(item.stream))?;
-    told.field(b", ", window_number(item.window))?;
-    told.add(b"}, ")
+    add_two(
+        told,
+        write_text(item.write),
+        u64::from(item.stream),
+        b", ",
+        window_number(item.window),
+        b"}, ",
+    )
 }
 
 /// Adds the members of a list of items.
@@ -53,8 +58,7 @@ fn add_all_items(told: &mut Text, items: &[SiteItem]) -> Result<(), Memory>
 fn add_slot(told: &mut Text, slot: u32) -> Result<(), Memory>
     ensures { OnOk result (told.new ≡ told.old ++ slot_text slot) }
 {
-    told.number(u64::from(slot))?;
-    told.add(b", ")
+    add_one(told, b"", u64::from(slot), b", ")
 }
 
 /// Adds the members of a list of captured slots.
@@ -71,11 +75,12 @@ fn add_all_slots(told: &mut Text, slots: &[u32]) -> Result<(), Memory>
 fn add_body(told: &mut Text, number: usize, site: &Site) -> Result<(), Memory>
     ensures { OnOk result (told.new ≡ told.old ++ body_text number site.now) }
 {
-    told.field(b"static void site_", number as u64)?;
-    add_one(
+    add_two(
         told,
+        b"static void site_",
+        number as u64,
         b"(const int32_t *c)\n{\n    (void)c;\n    unit_",
-        site.unit,
+        u64::from(site.unit),
         b"(",
     )?;
     add_scalars(told, site.captured.len())?;
@@ -86,8 +91,12 @@ fn add_body(told: &mut Text, number: usize, site: &Site) -> Result<(), Memory>
 fn add_items(told: &mut Text, number: usize, site: &Site) -> Result<(), Memory>
     ensures { OnOk result (told.new ≡ told.old ++ items_text number site.now) }
 {
-    told.field(b"static const struct os_item items_", number as u64)?;
-    told.add(b"[] = {")?;
+    add_one(
+        told,
+        b"static const struct os_item items_",
+        number as u64,
+        b"[] = {",
+    )?;
     add_all_items(told, site.items.as_slice())?;
     told.add(b"{0, 0, 0}};\n")
 }
@@ -96,8 +105,12 @@ fn add_items(told: &mut Text, number: usize, site: &Site) -> Result<(), Memory>
 fn add_captured(told: &mut Text, number: usize, site: &Site) -> Result<(), Memory>
     ensures { OnOk result (told.new ≡ told.old ++ captured_text number site.now) }
 {
-    told.field(b"static const uint32_t captured_", number as u64)?;
-    told.add(b"[] = {")?;
+    add_one(
+        told,
+        b"static const uint32_t captured_",
+        number as u64,
+        b"[] = {",
+    )?;
     add_all_slots(told, site.captured.as_slice())?;
     told.add(b"0};\n\n")
 }
@@ -131,17 +144,44 @@ pub(crate) fn add_sites(told: &mut Text, code: &Code) -> Result<(), Memory>
     Ok(())
 }
 
+/// Adds the front of the line of a site: its body, its line and how many items it has.
+fn add_counts(told: &mut Text, number: usize, site: &Site) -> Result<(), Memory>
+    ensures { OnOk result (told.new ≡ told.old ++ site_counts number site.now) }
+{
+    add_three(
+        told,
+        b"    {site_",
+        number as u64,
+        b", ",
+        u64::from(site.line),
+        b", ",
+        site.items.len() as u64,
+        b", ",
+    )
+}
+
+/// Adds the rest of the line of a site: how many slots it captures, and its lists.
+fn add_lists(told: &mut Text, number: usize, site: &Site) -> Result<(), Memory>
+    ensures { OnOk result (told.new ≡ told.old ++ site_lists number site.now) }
+{
+    add_three(
+        told,
+        b"",
+        site.captured.len() as u64,
+        b", items_",
+        number as u64,
+        b", captured_",
+        number as u64,
+        b"},\n",
+    )
+}
+
 /// Adds the line of a site.
 fn add_line(told: &mut Text, number: usize, site: &Site) -> Result<(), Memory>
     ensures { OnOk result (told.new ≡ told.old ++ site_line number site.now) }
 {
-    told.field(b"    {site_", number as u64)?;
-    told.field(b", ", u64::from(site.line))?;
-    told.field(b", ", site.items.len() as u64)?;
-    told.field(b", ", site.captured.len() as u64)?;
-    told.field(b", items_", number as u64)?;
-    told.field(b", captured_", number as u64)?;
-    told.add(b"},\n")
+    add_counts(told, number, site)?;
+    add_lists(told, number, site)
 }
 
 /// Adds the line of the site with a number.

@@ -3,7 +3,7 @@
 ghost use Rattle.std.specs.Prelude.{◌≡◌, ◌<◌, ◌++◌, length, OnOk};
 ghost use Rattle.os_code.specs.Codes.{parts_of};
 ghost use Rattle.os_code.specs.NeedTables.{IsMarked};
-ghost use Rattle.oscc_text.specs.Units.{slots, unit_head, unit_text, unit_text_at, units_text};
+ghost use Rattle.oscc_text.specs.Units.{operand_stack, signature, slots, unit_head, unit_text, unit_text_at, units_text};
 
 use crate::lists::{add_parameters, add_stored_arguments};
 use crate::pieces::add_one;
@@ -23,32 +23,45 @@ fn add_slots(told: &mut Text, count: u32) -> Result<(), Memory>
     ensures { OnOk result (told.new ≡ told.old ++ slots count) }
 {
     if count <= MOST_ON_STACK {
-        add_one(told, b"    int32_t v[1 + ", count, b"] = {0};\n")
+        add_one(told, b"    int32_t v[1 + ", u64::from(count), b"] = {0};\n")
     } else {
         add_one(
             told,
             b"    static int32_t v[1 + ",
-            count,
+            u64::from(count),
             b"];\n    memset(v, 0, sizeof v);\n",
         )
     }
+}
+
+/// Adds what a unit is called and what it takes.
+fn add_signature(told: &mut Text, number: usize, args: u32) -> Result<(), Memory>
+    ensures { OnOk result (told.new ≡ told.old ++ signature number args) }
+{
+    add_one(told, b"static int32_t unit_", number as u64, b"(")?;
+    add_parameters(told, args)?;
+    told.add(b")\n{\n")
+}
+
+/// Adds the operand stack of a unit.
+fn add_operand_stack(told: &mut Text, most: u32) -> Result<(), Memory>
+    ensures { OnOk result (told.new ≡ told.old ++ operand_stack most) }
+{
+    add_one(
+        told,
+        b"    int32_t s[1 + ",
+        u64::from(most),
+        b"];\n    size_t d = 0;\n",
+    )
 }
 
 /// Adds the front of the function of a unit, up to its first row.
 fn add_head(told: &mut Text, number: usize, unit: CodeUnit) -> Result<(), Memory>
     ensures { OnOk result (told.new ≡ told.old ++ unit_head number unit) }
 {
-    told.field(b"static int32_t unit_", number as u64)?;
-    told.add(b"(")?;
-    add_parameters(told, unit.args)?;
-    told.add(b")\n{\n")?;
+    add_signature(told, number, unit.args)?;
     add_slots(told, unit.slots)?;
-    add_one(
-        told,
-        b"    int32_t s[1 + ",
-        unit.stack,
-        b"];\n    size_t d = 0;\n",
-    )?;
+    add_operand_stack(told, unit.stack)?;
     add_stored_arguments(told, unit.args)
 }
 
@@ -71,12 +84,7 @@ fn add_unit(
 }
 
 /// Adds the function of the unit with a number.
-fn add_unit_at(
-    told: &mut Text,
-    code: &Code,
-    marks: &[bool],
-    number: usize,
-) -> Result<(), Memory>
+fn add_unit_at(told: &mut Text, code: &Code, marks: &[bool], number: usize) -> Result<(), Memory>
     requires marked { IsMarked (parts_of code.now) marks.now }
     ensures { OnOk result (told.new ≡ told.old ++ unit_text_at (parts_of code.now) number) }
 {
