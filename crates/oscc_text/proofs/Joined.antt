@@ -15,3 +15,10 @@ one_more f from n old so_far is = more old (flat_map f (range_with_len from n)) 
 pub one_more_from_none : (f : ℕ → List ℕ) (n : ℕ) (old so_far : List ℕ) → so_far ≡ old ++ flat_map f (range_with_len 0 n)
     → so_far ++ f n ≡ old ++ flat_map f (range_with_len 0 (n + 1))
 one_more_from_none f n old so_far is = ap (λ (j : ℕ). so_far ++ f j) (sym (zero-add n)) ∙ one_more f 0 n old so_far is
+
+-- the third of three texts, and the fourth of four
+pub three : (old a b d : List ℕ) {s t : List ℕ} → s ≡ old ++ a → t ≡ s ++ b → t ++ d ≡ old ++ (a ++ b ++ d)
+three old a b d first second = more old (a ++ b) d (second ∙ more old a b first)
+
+pub four : (old a b d e : List ℕ) {s t u : List ℕ} → s ≡ old ++ a → t ≡ s ++ b → u ≡ t ++ d → u ++ e ≡ old ++ (a ++ b ++ d ++ e)
+four old a b d e first second third = more old (a ++ b ++ d) e (third ∙ three old a b d first second)

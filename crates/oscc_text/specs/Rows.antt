@@ -54,6 +54,9 @@ abbrev pub binary_row : BinaryOperator → (line : ℕ) → List ℕ
 binary_row op line = codes "--d; s[d - 1] = " ++ binary_name op ++ codes "(s[d - 1], s[d], " ++ decimal line ++ codes ");"
 
 -- slots by an index
+abbrev pub check_row : (size line : ℕ) → List ℕ
+check_row size line = codes "os_index(s[d - 1], " ++ decimal size ++ codes ", " ++ decimal line ++ codes ");"
+
 abbrev pub load_row : (first size line : ℕ) → List ℕ
 load_row first size line =
     codes "s[d - 1] = v[" ++ decimal first ++ codes " + os_index(s[d - 1], " ++ decimal size ++ codes ", " ++ decimal line ++ codes ")];"
@@ -73,6 +76,25 @@ item_store_row item line =
     codes "d -= 2; os_windows[" ++ decimal item ++ codes "].at[os_index(s[d], os_windows[" ++ decimal item ++ codes "].size, "
     ++ decimal line ++ codes ")] = s[d + 1];"
 
+abbrev pub item_check_row : (item line : ℕ) → List ℕ
+item_check_row item line = codes "os_index(s[d - 1], os_windows[" ++ decimal item ++ codes "].size, " ++ decimal line ++ codes ");"
+
+-- windows, bursts and ticks of `main`
+abbrev pub window_row : (slot line : ℕ) → List ℕ
+window_row slot line = codes "--d; v[" ++ decimal slot ++ codes "] = os_size(s[d], " ++ decimal line ++ codes ");"
+
+abbrev pub burst_in_row : (line : ℕ) → List ℕ
+burst_in_row line = codes "os_burst_in(s[d - 1], " ++ decimal line ++ codes ");"
+
+abbrev pub burst_out_row : (slot line : ℕ) → List ℕ
+burst_out_row slot line = codes "os_burst_out(s[d - 1], v[" ++ decimal slot ++ codes "], " ++ decimal line ++ codes ");"
+
+abbrev pub spawn_row : (site : ℕ) → List ℕ
+spawn_row site = codes "d -= 2 * os_sites[" ++ decimal site ++ codes "].items; os_spawn(" ++ decimal site ++ codes ", s + d, v);"
+
+abbrev pub tick_row : (first : ℕ) → List ℕ
+tick_row first = codes "d -= 2; os_tick(" ++ decimal first ++ codes ", s[d], s[d + 1]);"
+
 -- The row of an instruction.
 abbrev pub row : Parts → Instr → List ℕ
 row code (Push number) = push_row number
@@ -81,11 +103,10 @@ row code Copy = codes "s[d] = s[d - 1]; ++d;"
 row code (Load slot) = codes "s[d++] = v[" ++ decimal slot ++ codes "];"
 row code (Store slot) = codes "v[" ++ decimal slot ++ codes "] = s[--d];"
 row code (Zero first count) = zero_row first count
-row code (CheckAt size line) = codes "os_index(s[d - 1], " ++ decimal size ++ codes ", " ++ decimal line ++ codes ");"
+row code (CheckAt size line) = check_row size line
 row code (LoadAt first size line) = load_row first size line
 row code (StoreAt first size line) = store_row first size line
-row code (ItemCheck item line) =
-    codes "os_index(s[d - 1], os_windows[" ++ decimal item ++ codes "].size, " ++ decimal line ++ codes ");"
+row code (ItemCheck item line) = item_check_row item line
 row code (ItemLoad item line) = item_load_row item line
 row code (ItemStore item line) = item_store_row item line
 row code (Unary op line) = unary_row op line
@@ -96,15 +117,18 @@ row code Turn = codes "os_turn();"
 row code (Call unit) = call_row unit (args_of (unit_at code unit))
 row code Return = codes "return s[d - 1];"
 row code End = codes "return 0;"
-row code (Window slot line) = codes "--d; v[" ++ decimal slot ++ codes "] = os_size(s[d], " ++ decimal line ++ codes ");"
-row code (BurstIn line) = codes "os_burst_in(s[d - 1], " ++ decimal line ++ codes ");"
-row code (BurstOut slot line) = codes "os_burst_out(s[d - 1], v[" ++ decimal slot ++ codes "], " ++ decimal line ++ codes ");"
-row code (Spawn site) = codes "d -= 2 * os_sites[" ++ decimal site ++ codes "].items; os_spawn(" ++ decimal site ++ codes ", s + d, v);"
-row code (Tick first) = codes "d -= 2; os_tick(" ++ decimal first ++ codes ", s[d], s[d + 1]);"
+row code (Window slot line) = window_row slot line
+row code (BurstIn line) = burst_in_row line
+row code (BurstOut slot line) = burst_out_row slot line
+row code (Spawn site) = spawn_row site
+row code (Tick first) = tick_row first
 
 -- The row of a place, behind the label that jumps go to.
+abbrev pub label : ℕ → List ℕ
+label place = codes "L" ++ decimal place ++ codes ": "
+
 abbrev pub labelled : Parts → ℕ → Instr → List ℕ
-labelled code place instr = codes "L" ++ decimal place ++ codes ": " ++ row code instr ++ codes "\n"
+labelled code place instr = label place ++ row code instr ++ codes "\n"
 
 abbrev pub row_at : Parts → ℕ → List ℕ
 row_at code place = option_map_or (labelled code place) (instr_at code place) []

@@ -40,9 +40,11 @@ abbrev pub body_text : (number : ℕ) → Site → List ℕ
 body_text number site = body_head number site ++ scalars (length site.captured) ++ codes ");\n}\n\n"
 
 -- The lists of a site, each with zeros behind its members.
+abbrev pub items_head : ℕ → List ℕ
+items_head number = codes "static const struct os_item items_" ++ decimal number ++ codes "[] = {"
+
 abbrev pub items_text : (number : ℕ) → Site → List ℕ
-items_text number site =
-    codes "static const struct os_item items_" ++ decimal number ++ codes "[] = {" ++ flat_map item_text site.items ++ codes "{0, 0, 0}};\n"
+items_text number site = items_head number ++ flat_map item_text site.items ++ codes "{0, 0, 0}};\n"
 
 abbrev pub captured_text : (number : ℕ) → Site → List ℕ
 captured_text number site =

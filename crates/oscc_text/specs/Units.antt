@@ -26,14 +26,21 @@ abbrev pub most_on_stack : ℕ
 most_on_stack = 64
 
 -- The slots, all 0.
+abbrev pub stack_slots : ℕ → List ℕ
+stack_slots count = codes "    int32_t v[1 + " ++ decimal count ++ codes "] = {0};\n"
+
+abbrev pub static_slots : ℕ → List ℕ
+static_slots count = codes "    static int32_t v[1 + " ++ decimal count ++ codes "];\n    memset(v, 0, sizeof v);\n"
+
 abbrev pub slots : ℕ → List ℕ
-slots count =
-    if nat_le count most_on_stack then codes "    int32_t v[1 + " ++ decimal count ++ codes "] = {0};\n"
-    else codes "    static int32_t v[1 + " ++ decimal count ++ codes "];\n    memset(v, 0, sizeof v);\n"
+slots count = if nat_le count most_on_stack then stack_slots count else static_slots count
 
 -- The function of a unit. Its slots are 0 but for the arguments, and its operand stack is empty.
+abbrev pub signature_head : ℕ → List ℕ
+signature_head number = codes "static int32_t unit_" ++ decimal number ++ codes "("
+
 abbrev pub signature : (number args : ℕ) → List ℕ
-signature number args = codes "static int32_t unit_" ++ decimal number ++ codes "(" ++ parameters args ++ codes ")\n{\n"
+signature number args = signature_head number ++ parameters args ++ codes ")\n{\n"
 
 abbrev pub operand_stack : ℕ → List ℕ
 operand_stack most = codes "    int32_t s[1 + " ++ decimal most ++ codes "];\n    size_t d = 0;\n"

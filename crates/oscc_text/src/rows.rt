@@ -3,8 +3,9 @@
 ghost use Rattle.std.specs.Prelude.{◌≡◌, ◌≤◌, ◌-◌, ◌++◌, OnOk};
 ghost use Rattle.os_code.specs.Codes.{parts_of};
 ghost use Rattle.os_code.specs.Parts.{unit_at};
-ghost use Rattle.oscc_text.specs.Rows.{args_of, binary_row, call_row, item_load_row, item_store_row, labelled, load_row};
-ghost use Rattle.oscc_text.specs.Rows.{push_row, row, row_at, rows, store_row, unary_row, zero_row};
+ghost use Rattle.oscc_text.specs.Rows.{args_of, binary_row, burst_in_row, burst_out_row, call_head, call_row, check_row, item_check_row};
+ghost use Rattle.oscc_text.specs.Rows.{item_load_row, item_store_row, label, labelled, load_row, push_row, row, row_at, rows, spawn_row};
+ghost use Rattle.oscc_text.specs.Rows.{store_row, tick_row, unary_row, window_row, zero_row};
 
 use crate::lists::add_operands;
 use crate::names::{binary_name, unary_name};
@@ -23,9 +24,9 @@ fn args_of(code: &Code, unit: u32) -> u32
     }
 }
 
-/// Adds the row of a call.
-fn add_call(told: &mut Text, unit: u32, args: u32) -> Result<(), Memory>
-    ensures { OnOk result (told.new ≡ told.old ++ call_row unit args) }
+/// Adds the front of the row of a call.
+fn add_call_head(told: &mut Text, unit: u32, args: u32) -> Result<(), Memory>
+    ensures { OnOk result (told.new ≡ told.old ++ call_head unit args) }
 {
     add_two(
         told,
@@ -34,7 +35,14 @@ fn add_call(told: &mut Text, unit: u32, args: u32) -> Result<(), Memory>
         b"; s[d] = unit_",
         u64::from(unit),
         b"(",
-    )?;
+    )
+}
+
+/// Adds the row of a call.
+fn add_call(told: &mut Text, unit: u32, args: u32) -> Result<(), Memory>
+    ensures { OnOk result (told.new ≡ told.old ++ call_row unit args) }
+{
+    add_call_head(told, unit, args)?;
     add_operands(told, args)?;
     told.add(b"); ++d;")
 }
@@ -158,6 +166,95 @@ fn add_item_store(told: &mut Text, item: u32, line: u32) -> Result<(), Memory>
     )
 }
 
+/// Adds the row that looks at an index.
+fn add_check(told: &mut Text, size: u32, line: u32) -> Result<(), Memory>
+    ensures { OnOk result (told.new ≡ told.old ++ check_row size line) }
+{
+    add_two(
+        told,
+        b"os_index(s[d - 1], ",
+        u64::from(size),
+        b", ",
+        u64::from(line),
+        b");",
+    )
+}
+
+/// Adds the row that looks at an index into a window.
+fn add_item_check(told: &mut Text, item: u32, line: u32) -> Result<(), Memory>
+    ensures { OnOk result (told.new ≡ told.old ++ item_check_row item line) }
+{
+    add_two(
+        told,
+        b"os_index(s[d - 1], os_windows[",
+        u64::from(item),
+        b"].size, ",
+        u64::from(line),
+        b");",
+    )
+}
+
+/// Adds the row that keeps the size of a window.
+fn add_window(told: &mut Text, slot: u32, line: u32) -> Result<(), Memory>
+    ensures { OnOk result (told.new ≡ told.old ++ window_row slot line) }
+{
+    add_two(
+        told,
+        b"--d; v[",
+        u64::from(slot),
+        b"] = os_size(s[d], ",
+        u64::from(line),
+        b");",
+    )
+}
+
+/// Adds the row that looks at the burst of an input item.
+fn add_burst_in(told: &mut Text, line: u32) -> Result<(), Memory>
+    ensures { OnOk result (told.new ≡ told.old ++ burst_in_row line) }
+{
+    add_one(told, b"os_burst_in(s[d - 1], ", u64::from(line), b");")
+}
+
+/// Adds the row that looks at the burst of an output item.
+fn add_burst_out(told: &mut Text, slot: u32, line: u32) -> Result<(), Memory>
+    ensures { OnOk result (told.new ≡ told.old ++ burst_out_row slot line) }
+{
+    add_two(
+        told,
+        b"os_burst_out(s[d - 1], v[",
+        u64::from(slot),
+        b"], ",
+        u64::from(line),
+        b");",
+    )
+}
+
+/// Adds the row that creates an activation.
+fn add_spawn(told: &mut Text, site: u32) -> Result<(), Memory>
+    ensures { OnOk result (told.new ≡ told.old ++ spawn_row site) }
+{
+    add_two(
+        told,
+        b"d -= 2 * os_sites[",
+        u64::from(site),
+        b"].items; os_spawn(",
+        u64::from(site),
+        b", s + d, v);",
+    )
+}
+
+/// Adds the row of a tick.
+fn add_tick(told: &mut Text, first: u32) -> Result<(), Memory>
+    ensures { OnOk result (told.new ≡ told.old ++ tick_row first) }
+{
+    add_one(
+        told,
+        b"d -= 2; os_tick(",
+        u64::from(first),
+        b", s[d], s[d + 1]);",
+    )
+}
+
 /// Adds the row of an instruction.
 fn add_row(told: &mut Text, code: &Code, instr: Instr) -> Result<(), Memory>
     ensures { OnOk result (told.new ≡ told.old ++ row (parts_of code.now) instr) }
@@ -169,26 +266,10 @@ fn add_row(told: &mut Text, code: &Code, instr: Instr) -> Result<(), Memory>
         Instr::Load(slot) => add_one(told, b"s[d++] = v[", u64::from(slot), b"];"),
         Instr::Store(slot) => add_one(told, b"v[", u64::from(slot), b"] = s[--d];"),
         Instr::Zero { first, count } => add_zero(told, first, count),
-        Instr::CheckAt { size, line } => {
-            add_two(
-                told,
-                b"os_index(s[d - 1], ",
-                u64::from(size),
-                b", ",
-                u64::from(line),
-                b");",
-            )
-        }
+        Instr::CheckAt { size, line } => add_check(told, size, line),
         Instr::LoadAt { first, size, line } => add_load(told, first, size, line),
         Instr::StoreAt { first, size, line } => add_store(told, first, size, line),
-        Instr::ItemCheck { item, line } => add_two(
-            told,
-            b"os_index(s[d - 1], os_windows[",
-            u64::from(item),
-            b"].size, ",
-            u64::from(line),
-            b");",
-        ),
+        Instr::ItemCheck { item, line } => add_item_check(told, item, line),
         Instr::ItemLoad { item, line } => add_item_load(told, item, line),
         Instr::ItemStore { item, line } => add_item_store(told, item, line),
         Instr::Unary { op, line } => add_unary(told, op, line),
@@ -199,47 +280,26 @@ fn add_row(told: &mut Text, code: &Code, instr: Instr) -> Result<(), Memory>
         Instr::Call(unit) => add_call(told, unit, args_of(code, unit)),
         Instr::Return => told.add(b"return s[d - 1];"),
         Instr::End => told.add(b"return 0;"),
-        Instr::Window { slot, line } => {
-            add_two(
-                told,
-                b"--d; v[",
-                u64::from(slot),
-                b"] = os_size(s[d], ",
-                u64::from(line),
-                b");",
-            )
-        }
-        Instr::BurstIn { line } => add_one(told, b"os_burst_in(s[d - 1], ", u64::from(line), b");"),
-        Instr::BurstOut { slot, line } => add_two(
-            told,
-            b"os_burst_out(s[d - 1], v[",
-            u64::from(slot),
-            b"], ",
-            u64::from(line),
-            b");",
-        ),
-        Instr::Spawn(site) => add_two(
-            told,
-            b"d -= 2 * os_sites[",
-            u64::from(site),
-            b"].items; os_spawn(",
-            u64::from(site),
-            b", s + d, v);",
-        ),
-        Instr::Tick(first) => add_one(
-            told,
-            b"d -= 2; os_tick(",
-            u64::from(first),
-            b", s[d], s[d + 1]);",
-        ),
+        Instr::Window { slot, line } => add_window(told, slot, line),
+        Instr::BurstIn { line } => add_burst_in(told, line),
+        Instr::BurstOut { slot, line } => add_burst_out(told, slot, line),
+        Instr::Spawn(site) => add_spawn(told, site),
+        Instr::Tick(first) => add_tick(told, first),
     }
+}
+
+/// Adds the label of a place.
+fn add_label(told: &mut Text, place: usize) -> Result<(), Memory>
+    ensures { OnOk result (told.new ≡ told.old ++ label place) }
+{
+    add_one(told, b"L", place as u64, b": ")
 }
 
 /// Adds the row of an instruction behind its label.
 fn add_labelled(told: &mut Text, code: &Code, place: usize, instr: Instr) -> Result<(), Memory>
     ensures { OnOk result (told.new ≡ told.old ++ labelled (parts_of code.now) place instr) }
 {
-    add_one(told, b"L", place as u64, b": ")?;
+    add_label(told, place)?;
     add_row(told, code, instr)?;
     told.add(b"\n")
 }

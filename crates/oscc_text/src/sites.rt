@@ -3,8 +3,8 @@
 ghost use Rattle.std.specs.Prelude.{◌≡◌, ◌++◌, OnOk};
 ghost use Rattle.std.specs.List.{flat_map};
 ghost use Rattle.os_code.specs.Codes.{parts_of};
-ghost use Rattle.oscc_text.specs.Sites.{body_text, captured_text, item_text, items_text, site_counts, site_line, site_line_at};
-ghost use Rattle.oscc_text.specs.Sites.{site_lines, site_lists};
+ghost use Rattle.oscc_text.specs.Sites.{body_head, body_text, captured_text, item_text, items_head, items_text, site_counts, site_line};
+ghost use Rattle.oscc_text.specs.Sites.{site_line_at, site_lines, site_lists};
 ghost use Rattle.oscc_text.specs.Sites.{site_text, site_text_at, sites_text, slot_text, table_text, window_number, write_text};
 
 use crate::lists::add_scalars;
@@ -71,9 +71,9 @@ fn add_all_slots(told: &mut Text, slots: &[u32]) -> Result<(), Memory>
     Ok(())
 }
 
-/// Adds the function that calls the body of a site.
-fn add_body(told: &mut Text, number: usize, site: &Site) -> Result<(), Memory>
-    ensures { OnOk result (told.new ≡ told.old ++ body_text number site.now) }
+/// Adds the front of the function that calls the body of a site.
+fn add_body_head(told: &mut Text, number: usize, site: &Site) -> Result<(), Memory>
+    ensures { OnOk result (told.new ≡ told.old ++ body_head number site.now) }
 {
     add_two(
         told,
@@ -82,21 +82,35 @@ fn add_body(told: &mut Text, number: usize, site: &Site) -> Result<(), Memory>
         b"(const int32_t *c)\n{\n    (void)c;\n    unit_",
         u64::from(site.unit),
         b"(",
-    )?;
+    )
+}
+
+/// Adds the function that calls the body of a site.
+fn add_body(told: &mut Text, number: usize, site: &Site) -> Result<(), Memory>
+    ensures { OnOk result (told.new ≡ told.old ++ body_text number site.now) }
+{
+    add_body_head(told, number, site)?;
     add_scalars(told, site.captured.len())?;
     told.add(b");\n}\n\n")
 }
 
-/// Adds the list of the items of a site.
-fn add_items(told: &mut Text, number: usize, site: &Site) -> Result<(), Memory>
-    ensures { OnOk result (told.new ≡ told.old ++ items_text number site.now) }
+/// Adds the front of the list of the items of a site.
+fn add_items_head(told: &mut Text, number: usize) -> Result<(), Memory>
+    ensures { OnOk result (told.new ≡ told.old ++ items_head number) }
 {
     add_one(
         told,
         b"static const struct os_item items_",
         number as u64,
         b"[] = {",
-    )?;
+    )
+}
+
+/// Adds the list of the items of a site.
+fn add_items(told: &mut Text, number: usize, site: &Site) -> Result<(), Memory>
+    ensures { OnOk result (told.new ≡ told.old ++ items_text number site.now) }
+{
+    add_items_head(told, number)?;
     add_all_items(told, site.items.as_slice())?;
     told.add(b"{0, 0, 0}};\n")
 }

@@ -3,7 +3,8 @@
 ghost use Rattle.std.specs.Prelude.{◌≡◌, ◌<◌, ◌++◌, length, OnOk};
 ghost use Rattle.os_code.specs.Codes.{parts_of};
 ghost use Rattle.os_code.specs.NeedTables.{IsMarked};
-ghost use Rattle.oscc_text.specs.Units.{operand_stack, signature, slots, unit_head, unit_text, unit_text_at, units_text};
+ghost use Rattle.oscc_text.specs.Units.{operand_stack, signature, signature_head, slots, stack_slots, static_slots, unit_head};
+ghost use Rattle.oscc_text.specs.Units.{unit_text, unit_text_at, units_text};
 
 use crate::lists::{add_parameters, add_stored_arguments};
 use crate::pieces::add_one;
@@ -18,27 +19,48 @@ use std::alloc::Global;
 /// some thousands deep at most, so that all such slots take a few megabytes of it.
 const MOST_ON_STACK: u32 = 64;
 
-/// Adds the slots of a unit, all of them 0.
+/// Adds few slots, all of them 0.
+fn add_stack_slots(told: &mut Text, count: u32) -> Result<(), Memory>
+    ensures { OnOk result (told.new ≡ told.old ++ stack_slots count) }
+{
+    add_one(told, b"    int32_t v[1 + ", u64::from(count), b"] = {0};\n")
+}
+
+/// Adds many slots, all of them 0.
+fn add_static_slots(told: &mut Text, count: u32) -> Result<(), Memory>
+    ensures { OnOk result (told.new ≡ told.old ++ static_slots count) }
+{
+    add_one(
+        told,
+        b"    static int32_t v[1 + ",
+        u64::from(count),
+        b"];\n    memset(v, 0, sizeof v);\n",
+    )
+}
+
+/// Adds the slots of a unit.
 fn add_slots(told: &mut Text, count: u32) -> Result<(), Memory>
     ensures { OnOk result (told.new ≡ told.old ++ slots count) }
 {
     if count <= MOST_ON_STACK {
-        add_one(told, b"    int32_t v[1 + ", u64::from(count), b"] = {0};\n")
+        add_stack_slots(told, count)
     } else {
-        add_one(
-            told,
-            b"    static int32_t v[1 + ",
-            u64::from(count),
-            b"];\n    memset(v, 0, sizeof v);\n",
-        )
+        add_static_slots(told, count)
     }
+}
+
+/// Adds what a unit is called.
+fn add_signature_head(told: &mut Text, number: usize) -> Result<(), Memory>
+    ensures { OnOk result (told.new ≡ told.old ++ signature_head number) }
+{
+    add_one(told, b"static int32_t unit_", number as u64, b"(")
 }
 
 /// Adds what a unit is called and what it takes.
 fn add_signature(told: &mut Text, number: usize, args: u32) -> Result<(), Memory>
     ensures { OnOk result (told.new ≡ told.old ++ signature number args) }
 {
-    add_one(told, b"static int32_t unit_", number as u64, b"(")?;
+    add_signature_head(told, number)?;
     add_parameters(told, args)?;
     told.add(b")\n{\n")
 }
