@@ -1,7 +1,7 @@
-/* The runtime of a program that oscc wrote: control-driven data flow on one thread. main creates the activations, which claim
-   their windows; then each activation runs once all that it reads is there, and what it writes may let others run. */
+/* The runtime of a program that oscc wrote: control-driven data flow on one thread. main creates the activations, which claim their
+   windows. Then each activation runs once all that it reads is there, and what it writes may let others run. */
 #include "osrt.h"
-
+#include <inttypes.h>
 #include <setjmp.h>
 #include <signal.h>
 #include <stdio.h>
@@ -67,30 +67,32 @@ static _Noreturn void end_by(enum how how, int code, uint32_t line)
 _Noreturn void os_trap(int code, uint32_t line) { end_by(TRAPPED, code, line); }
 _Noreturn void os_over_budget(void) { end_by(OVER_BUDGET, 0, 0); }
 
-static _Noreturn void no_memory(void) { exit(STATUS_MEMORY); }
-
 static _Noreturn void refuse(int status, const char *why)
 {
     fputs(why, stderr);
     exit(status);
 }
 
-/* Room for one more behind count members, each of this size: twice as much where there is none. */
+/* Room for as many members of this size. */
+static void *more(void *members, size_t count, size_t size)
+{
+    void *moved = realloc(members, count * size);
+    if (moved == NULL)
+        exit(STATUS_MEMORY);
+    return moved;
+}
+
+/* Room for one more behind count members: twice as much where there is none. */
 static void *room(void *members, size_t count, size_t size)
 {
-    if (count != 0 && (count & (count - 1)) != 0)
-        return members;
-    void *more = realloc(members, (count == 0 ? 1 : 2 * count) * size);
-    if (more == NULL)
-        no_memory();
-    return more;
+    return (count & (count - 1)) != 0 ? members : more(members, count == 0 ? 1 : 2 * count, size);
 }
 
 static void *zeros(size_t count, size_t size)
 {
     void *members = calloc(count + 1, size);
     if (members == NULL)
-        no_memory();
+        exit(STATUS_MEMORY);
     return members;
 }
 
@@ -213,8 +215,6 @@ static int pass_window(struct activation *one, struct claim *claim)
     uint64_t end = claim->first + claim->horizon;
     if (claim->stream == 0)
         return end <= input_length;
-    if (end > streams[claim->stream].written && claim->next == NONE)
-        return 0;
     while (claim->next != NONE && claims[claim->next].first < end) {
         const struct activation *writer = &activations[claims[claim->next].activation];
         if (writer->end.how == WAITS)
@@ -322,36 +322,27 @@ static size_t write_output(void)
 static void tell_starved(uint32_t number, const struct activation *one)
 {
     const struct claim *claim = &claims[one->missed];
-    uint64_t behind = claim->stream == 0 ? input_length : streams[claim->stream].written;
-    int has_writer = claim->stream != 0 && claim->next != NONE;
-    uint64_t from = has_writer ? claims[claim->next].first : behind;
-    fprintf(stderr, "starved %lu stream %lu position %llu producer ", (unsigned long)number, (unsigned long)claim->stream,
-            (unsigned long long)(from > claim->first ? from : claim->first));
-    if (has_writer)
-        fprintf(stderr, "%lu starved\n", (unsigned long)claims[claim->next].activation);
+    const struct claim *writer = claim->next == NONE ? NULL : &claims[claim->next];
+    uint64_t from = writer != NULL ? writer->first : claim->stream == 0 ? input_length : streams[claim->stream].written;
+    fprintf(stderr, "starved %" PRIu32 " stream %" PRIu32 " position %" PRIu64 " producer ", number, claim->stream,
+            from > claim->first ? from : claim->first);
+    if (writer != NULL)
+        fprintf(stderr, "%" PRIu32 " starved\n", writer->activation);
     else
         fputs("none\n", stderr);
 }
 
+/* Tells of an activation that isn't done. */
 static void tell_activation(uint32_t number, const struct activation *one)
 {
-    unsigned long name = number;
-    switch (one->end.how) {
-    case TRAPPED:
-        fprintf(stderr, "trapped %lu code %d line %lu\n", name, one->end.code, (unsigned long)one->end.line);
-        break;
-    case OVER_BUDGET:
-        fprintf(stderr, "over-budget %lu\n", name);
-        break;
-    case POISONED:
-        fprintf(stderr, "poisoned %lu by %lu\n", name, (unsigned long)one->root);
-        break;
-    case WAITS:
+    if (one->end.how == TRAPPED)
+        fprintf(stderr, "trapped %" PRIu32 " code %d line %" PRIu32 "\n", number, one->end.code, one->end.line);
+    else if (one->end.how == OVER_BUDGET)
+        fprintf(stderr, "over-budget %" PRIu32 "\n", number);
+    else if (one->end.how == POISONED)
+        fprintf(stderr, "poisoned %" PRIu32 " by %" PRIu32 "\n", number, one->root);
+    else if (one->end.how == WAITS)
         tell_starved(number, one);
-        break;
-    default:
-        break;
-    }
 }
 
 static void tell_control(struct end end)
@@ -359,34 +350,48 @@ static void tell_control(struct end end)
     if (end.how == DONE)
         fputs("control done\n", stderr);
     else if (end.how == TRAPPED)
-        fprintf(stderr, "control trapped code %d line %lu\n", end.code, (unsigned long)end.line);
+        fprintf(stderr, "control trapped code %d line %" PRIu32 "\n", end.code, end.line);
     else if (end.how == OVER_BUDGET)
         fputs("control over-budget\n", stderr);
     else
         fprintf(stderr, "control limit %d\n", end.code);
 }
 
+/* Writes the report, and gives the status of the run. */
+static int report(struct end end, uint64_t written)
+{
+    static char lines[65536];
+    int failed = end.how != DONE;
+    setvbuf(stderr, lines, _IOFBF, sizeof lines);
+    for (uint32_t k = 0; k < activation_count; ++k) {
+        failed |= activations[k].end.how != DONE;
+        tell_activation(k, &activations[k]);
+    }
+    tell_control(end);
+    fprintf(stderr, "output %" PRIu64 " of %" PRIu64 "\n", written, streams[1].written);
+    return fflush(stderr) != 0 || ferror(stderr) ? STATUS_WRITE : failed;
+}
+
 /* Reads the bytes of the input into the cells of stream 0. */
 static void read_input(const char *name)
 {
     static unsigned char bytes[65536];
+    size_t cells = 0, count;
     FILE *file = fopen(name, "rb");
-    if (file == NULL)
-        refuse(STATUS_READ, "read fault input\n");
-    for (size_t count; (count = fread(bytes, 1, sizeof bytes, file)) != 0;) {
+    while (file != NULL && (count = fread(bytes, 1, sizeof bytes, file)) != 0) {
         if (count > INPUT - input_length)
             refuse(STATUS_LONG, "too long input\n");
-        for (size_t at = 0; at < count; ++at) {
-            streams[0].cells = room(streams[0].cells, input_length, sizeof *streams[0].cells);
+        if (cells < input_length + count)
+            streams[0].cells = more(streams[0].cells, cells = 2 * (input_length + count), sizeof(int32_t));
+        for (size_t at = 0; at < count; ++at)
             streams[0].cells[input_length++] = bytes[at];
-        }
     }
-    if (ferror(file))
+    if (file == NULL || ferror(file))
         refuse(STATUS_READ, "read fault input\n");
     fclose(file);
 }
 
-/* A number of turns, in decimals behind one + or none. */
+/* A number of turns, in decimals behind one + or none; -1 where it is none. */
 static int64_t turns_of(const char *word)
 {
     int64_t turns = 0;
@@ -398,35 +403,26 @@ static int64_t turns_of(const char *word)
     return *word == 0 && turns <= BUDGET ? turns : -1;
 }
 
-/* The value of an option: what stands behind the equals sign, or the next word. */
+/* Takes an option with its value, which stands behind an equals sign or is the next word. */
 static int take_option(const char *name, char **words, int *at, int64_t *turns)
 {
     size_t length = strlen(name);
-    const char *value;
-    if (strncmp(words[*at], name, length) != 0)
+    const char *word = words[*at];
+    if (strncmp(word, name, length) != 0 || (word[length] != '=' && (word[length] != 0 || words[*at + 1] == NULL)))
         return 0;
-    if (words[*at][length] == '=')
-        value = words[*at] + length + 1;
-    else if (words[*at][length] == 0 && words[*at + 1] != NULL)
-        value = words[++*at];
-    else
-        return 0;
+    const char *value = word[length] == '=' ? word + length + 1 : words[++*at];
     if (*turns >= 0 || (*turns = turns_of(value)) < 0)
         refuse(STATUS_USAGE, "usage\n");
     return 1;
 }
 
-int main(int argc, char **words)
+/* What the words ask for: the name of the input, and what the options are. */
+static const char *read_words(int count, char **words, int64_t *budget, int64_t *control)
 {
-    static char reported[65536];
     const char *name = NULL;
-    int64_t budget = -1, control = -1;
-    int names_alone = 0, failed;
-#ifdef SIGPIPE
-    signal(SIGPIPE, SIG_IGN);
-#endif
-    for (int at = 1; at < argc; ++at) {
-        if (!names_alone && (take_option("--budget", words, &at, &budget) || take_option("--control", words, &at, &control)))
+    int names_alone = 0;
+    for (int at = 1; at < count; ++at) {
+        if (!names_alone && (take_option("--budget", words, &at, budget) || take_option("--control", words, &at, control)))
             continue;
         if (!names_alone && strcmp(words[at], "--") == 0)
             names_alone = 1;
@@ -437,7 +433,16 @@ int main(int argc, char **words)
     }
     if (name == NULL)
         refuse(STATUS_USAGE, "usage\n");
-    uint64_t turns = budget < 0 ? DEFAULT_BUDGET : (uint64_t)budget;
+    return name;
+}
+
+int main(int count, char **words)
+{
+    int64_t budget = -1, control = -1;
+    const char *name = read_words(count, words, &budget, &control);
+#ifdef SIGPIPE
+    signal(SIGPIPE, SIG_IGN);
+#endif
     streams = zeros(os_streams, sizeof *streams);
     for (uint32_t k = 0; k < os_streams; ++k)
         streams[k].first = streams[k].last = streams[k].at = NONE;
@@ -446,18 +451,7 @@ int main(int argc, char **words)
     make_cells();
     for (uint32_t k = 0; k < activation_count; ++k) {
         find_writers(&activations[k]);
-        run_from(k, turns);
+        run_from(k, budget < 0 ? DEFAULT_BUDGET : (uint64_t)budget);
     }
-    size_t count = write_output();
-    setvbuf(stderr, reported, _IOFBF, sizeof reported);
-    failed = end.how != DONE;
-    for (uint32_t k = 0; k < activation_count; ++k) {
-        failed |= activations[k].end.how != DONE;
-        tell_activation(k, &activations[k]);
-    }
-    tell_control(end);
-    fprintf(stderr, "output %lu of %lu\n", (unsigned long)count, (unsigned long)streams[1].written);
-    if (fflush(stderr) != 0 || ferror(stderr))
-        exit(STATUS_WRITE);
-    return failed;
+    return report(end, write_output());
 }
