@@ -233,7 +233,7 @@ static int is_enabled(struct activation *one)
         struct claim *claim = &claims[one->missed];
         if (is_written(one, one->missed) || pass_window(one, claim))
             continue;
-        if (claim->stream != 0 && claim->next != NONE) {
+        if (claim->next != NONE) {
             struct activation *writer = &activations[claims[claim->next].activation];
             one->next = writer->waits;
             writer->waits = (uint32_t)(one - activations);

@@ -1,7 +1,7 @@
 //! The program `oscc`: writes a program of the language as C.
 //!
 //! `oscc FILE` reads the text of FILE and writes to standard output the C that `oscc_text` makes of its code, which a C compiler makes a
-//! program of, with the runtime in `runtime/`. Where that can't be done nothing is written there, and one line on standard error says why.
+//! program of, with the runtime in `runtime/`; `oscc --object FILE` takes the code of an object. Where that can't be done nothing is written there, and one line on standard error says why.
 #![tactic(auto)]
 
 mod loading;
@@ -16,7 +16,7 @@ use status::Status;
 use std::io;
 use std::process::ExitCode;
 use telling::{tell_no_memory, tell_usage};
-use translating::translate;
+use translating::{translate, translate_code};
 
 /// Tells something of the program.
 fn told(outcome: io::Result<()>) -> Status {
@@ -32,7 +32,8 @@ fn answer_words(rt: &HostRuntime, words: &[String]) -> Status {
         None => tell_usage(&mut rt.stderr()),
         Some(Request::Help) => told(tell_help(&mut rt.stdout())),
         Some(Request::Version) => told(tell_version(&mut rt.stdout())),
-        Some(Request::Translate) => translate(rt, words[0].as_str()),
+        Some(Request::Text(name)) => translate(rt, name),
+        Some(Request::Object(name)) => translate_code(rt, name),
     }
 }
 

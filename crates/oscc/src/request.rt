@@ -1,7 +1,5 @@
 //! What the words ask for.
 
-ghost use Rattle.std.specs.Prelude.{◌≡◌, length, IfSome};
-
 use std::io;
 
 /// What `--version` tells.
@@ -11,10 +9,11 @@ const VERSION: &str = "oscc 1.0";
 const HELP: &str = "\
 oscc writes OpenStream programs as C. Nothing is run.
 
-    oscc FILE         writes the program in FILE as C to standard output
-    oscc --runtime    tells the words by which a C compiler finds the runtime
-    oscc --help       tells this
-    oscc --version    tells the version
+    oscc FILE             writes the program in FILE as C to standard output
+    oscc --object FILE    writes the code in FILE, an object that osrun compile wrote
+    oscc --runtime        tells the words by which a C compiler finds the runtime
+    oscc --help           tells this
+    oscc --version        tells the version
 
     oscc adpcm.c >q.c && gcc -O2 -std=c11 q.c $(oscc --runtime) -o adpcm
     ./adpcm INPUT [--budget N] [--control N] >OUTPUT
@@ -24,27 +23,40 @@ the words are, 5 where it couldn't be read, 6 where not all could be written, an
 ";
 
 /// What is to be done.
-#[derive(Clone, Copy, PartialEq, Eq)]
-pub(crate) enum Request {
-    /// The file that the only word names is written as C.
-    Translate,
+#[derive(Clone, Copy)]
+pub(crate) enum Request<'a> {
+    /// The text in the file of this name is written as C.
+    Text(&'a str),
+    /// The code of the object in the file of this name is.
+    Object(&'a str),
     Help,
     Version,
 }
 
-/// What the words ask for, if they do: there is one.
-pub(crate) fn request_of(words: &[String]) -> Option<Request>
-    ensures { IfSome result (λ request. length words.now ≡ 1) }
-{
-    if words.len() != 1 {
-        return None;
+/// What the words ask for, if they do.
+pub(crate) fn request_of(words: &[String]) -> Option<Request<'_>> {
+    match words.len() {
+        1 => request_by(words[0].as_str()),
+        2 if words[0].as_str() == "--object" => name_in(words[1].as_str()).map(Request::Object),
+        _ => None,
     }
-    let word = words[0].as_str();
+}
+
+/// What a word alone asks for.
+fn request_by(word: &str) -> Option<Request<'_>> {
     match word {
         "--help" => Some(Request::Help),
         "--version" => Some(Request::Version),
-        _ if word.starts_with('-') => None,
-        _ => Some(Request::Translate),
+        _ => name_in(word).map(Request::Text),
+    }
+}
+
+/// The name of a file that a word is, if it is one.
+fn name_in(word: &str) -> Option<&str> {
+    if word.starts_with('-') {
+        None
+    } else {
+        Some(word)
     }
 }
 

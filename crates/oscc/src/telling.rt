@@ -1,12 +1,17 @@
 //! What is told where no C is written: one line, and the status of the program. Where the line can't be written, the status is the same.
 
+use crate::loading::NoBytes;
 use crate::status::Status;
-use front_end::{TEXT_LIMIT, TextRefusal};
+use front_end::TextRefusal;
+use os_object::ObjectError;
 use std::io;
 
 /// Tells that the words ask for nothing.
 pub(crate) fn tell_usage(told: &mut impl io::Write) -> Status {
-    let _ = writeln!(told, "usage: oscc FILE | --runtime | --help | --version");
+    let _ = writeln!(
+        told,
+        "usage: oscc [--object] FILE | --runtime | --help | --version"
+    );
     Status::BadWords
 }
 
@@ -16,16 +21,19 @@ pub(crate) fn tell_no_memory(told: &mut impl io::Write) -> Status {
     Status::NoMemory
 }
 
-/// Tells that a file can't be read.
-pub(crate) fn tell_unread(told: &mut impl io::Write, name: &str) -> Status {
-    let _ = writeln!(told, "{name}: can't be read");
-    Status::ReadFault
-}
-
-/// Tells that a file has more bytes than a text may have.
-pub(crate) fn tell_too_long(told: &mut impl io::Write, name: &str) -> Status {
-    let _ = writeln!(told, "{name}: error: a text has at most {TEXT_LIMIT} bytes");
-    Status::Refused
+/// Tells why the bytes of a file can't be had.
+pub(crate) fn tell_no_bytes(told: &mut impl io::Write, name: &str, why: NoBytes) -> Status {
+    match why {
+        NoBytes::TooLong(most) => {
+            let _ = writeln!(told, "{name}: error: it has more than {most} bytes");
+            Status::Refused
+        }
+        NoBytes::Failed => {
+            let _ = writeln!(told, "{name}: can't be read");
+            Status::ReadFault
+        }
+        NoBytes::Memory => tell_no_memory(told),
+    }
 }
 
 /// Tells why a text is refused, by its code in its line. `oscheck` says more.
@@ -37,6 +45,17 @@ pub(crate) fn tell_refused(
 ) -> Status {
     let code = refusal.code();
     let _ = writeln!(told, "{name}:{line}: error {code}: see oscheck {name}");
+    Status::Refused
+}
+
+/// Tells why an object is refused, by the code that `osrun exec` has for it.
+pub(crate) fn tell_object(told: &mut impl io::Write, name: &str, error: ObjectError) -> Status {
+    let code = match error {
+        ObjectError::Format => 30,
+        ObjectError::Invalid => 31,
+        ObjectError::Memory => return tell_no_memory(told),
+    };
+    let _ = writeln!(told, "{name}: error {code}: {error}");
     Status::Refused
 }
 
