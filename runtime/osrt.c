@@ -32,8 +32,9 @@ struct claim {
 
 struct activation {
     struct end end;
+    const struct os_site *site;
     /* Its windows and its captured scalars, from these numbers on. */
-    uint32_t site, claim, captured;
+    uint32_t claim, captured;
     /* The window in which an element is missed, and the least root of the poison that is read. */
     uint32_t missed, root;
     /* The activations that wait for this one: the first of them, and of one that waits the next. */
@@ -73,19 +74,16 @@ static _Noreturn void refuse(int status, const char *why)
     exit(status);
 }
 
-/* Room for as many members of this size. */
-static void *more(void *members, size_t count, size_t size)
+/* Room for count members of this size: twice as much where there is less. */
+static void *reserve(void *members, size_t *room, size_t count, size_t size)
 {
-    void *moved = realloc(members, count * size);
-    if (moved == NULL)
+    if (count <= *room)
+        return members;
+    *room = 2 * count;
+    members = realloc(members, *room * size);
+    if (members == NULL)
         exit(STATUS_MEMORY);
-    return moved;
-}
-
-/* Room for one more behind count members: twice as much where there is none. */
-static void *room(void *members, size_t count, size_t size)
-{
-    return (count & (count - 1)) != 0 ? members : more(members, count == 0 ? 1 : 2 * count, size);
+    return members;
 }
 
 static void *zeros(size_t count, size_t size)
@@ -122,16 +120,32 @@ static void link_writer(struct stream *stream, uint32_t number)
     stream->last = number;
 }
 
-/* A window for an item, where its stream is read or written next. */
-static void claim_for(const struct os_item *item, uint32_t picked, uint32_t horizon, uint32_t burst)
+/* A window for an item, where its stream is read or written next. There is room for it. */
+static void add_claim(const struct os_item *item, uint32_t picked, uint32_t horizon, uint32_t burst)
 {
     struct stream *stream = &streams[picked];
-    claims = room(claims, claim_count, sizeof *claims);
-    claims[claim_count] = (struct claim){item->write ? stream->written : stream->read, (uint32_t)activation_count, picked, horizon, NONE};
+    uint64_t *cursor = item->write ? &stream->written : &stream->read;
+    claims[claim_count] = (struct claim){*cursor, (uint32_t)activation_count, picked, horizon, NONE};
     if (item->write)
         link_writer(stream, (uint32_t)claim_count);
-    *(item->write ? &stream->written : &stream->read) += burst;
+    *cursor += burst;
     ++claim_count;
+}
+
+/* An activation of a site, which picked these streams with these horizons. */
+static void add_activation(const struct os_site *site, const uint32_t *picked, const uint32_t *horizons, const int32_t *operands, const int32_t *slots)
+{
+    static size_t activation_room, claim_room, captured_room;
+    activations = reserve(activations, &activation_room, activation_count + 1, sizeof *activations);
+    claims = reserve(claims, &claim_room, claim_count + site->items, sizeof *claims);
+    captured = reserve(captured, &captured_room, captured_count + site->captured, sizeof *captured);
+    activations[activation_count] = (struct activation){
+        {WAITS, 0, 0}, site, (uint32_t)claim_count, (uint32_t)captured_count, (uint32_t)claim_count, NONE, NONE, NONE};
+    for (uint32_t k = 0; k < site->items; ++k)
+        add_claim(&site->item[k], picked[k], horizons[k], (uint32_t)operands[2 * k + 1]);
+    for (uint32_t k = 0; k < site->captured; ++k)
+        captured[captured_count++] = slots[site->slot[k]];
+    ++activation_count;
 }
 
 void os_spawn(uint32_t number, const int32_t *operands, const int32_t *slots)
@@ -154,16 +168,7 @@ void os_spawn(uint32_t number, const int32_t *operands, const int32_t *slots)
     if (sum > POSITIONS)
         end_by(LIMITED, 2, 0);
     position_count = sum;
-    activations = room(activations, activation_count, sizeof *activations);
-    activations[activation_count] = (struct activation){
-        {WAITS, 0, 0}, number, (uint32_t)claim_count, (uint32_t)captured_count, (uint32_t)claim_count, NONE, NONE, NONE};
-    for (uint32_t k = 0; k < site->items; ++k)
-        claim_for(&site->item[k], picked[k], horizons[k], (uint32_t)operands[2 * k + 1]);
-    for (uint32_t k = 0; k < site->captured; ++k) {
-        captured = room(captured, captured_count, sizeof *captured);
-        captured[captured_count++] = slots[site->slot[k]];
-    }
-    ++activation_count;
+    add_activation(site, picked, horizons, operands, slots);
 }
 
 /* How main ends: then all activations are created. */
@@ -189,11 +194,9 @@ static void make_cells(void)
     }
 }
 
-static const struct os_site *site_of(const struct activation *one) { return &os_sites[one->site]; }
+static uint32_t claim_end(const struct activation *one) { return one->claim + one->site->items; }
 
-static uint32_t claim_end(const struct activation *one) { return one->claim + site_of(one)->items; }
-
-static int is_written(const struct activation *one, uint32_t number) { return site_of(one)->item[number - one->claim].write; }
+static int is_written(const struct activation *one, uint32_t number) { return one->site->item[number - one->claim].write; }
 
 /* Where windows that are read begin among those that write their streams. Activations come here in their order. */
 static void find_writers(const struct activation *one)
@@ -246,13 +249,11 @@ static int is_enabled(struct activation *one)
 /* Whether all that goes to the output is bytes. */
 static int sends_bytes(const struct activation *one)
 {
-    for (uint32_t k = one->claim; k < claim_end(one); ++k) {
-        const int32_t *cells = streams[claims[k].stream].cells + claims[k].first;
+    uint32_t bits = 0;
+    for (uint32_t k = one->claim; k < claim_end(one); ++k)
         for (uint32_t at = 0; claims[k].stream == 1 && at < claims[k].horizon; ++at)
-            if (cells[at] < 0 || cells[at] > 255)
-                return 0;
-    }
-    return 1;
+            bits |= (uint32_t)streams[1].cells[claims[k].first + at];
+    return bits <= 255;
 }
 
 /* How the body of an activation ends. */
@@ -263,9 +264,9 @@ static struct end run_body(const struct activation *one, uint64_t budget)
     ended = (struct end){DONE, 0, 0};
     os_turns = budget;
     if (setjmp(ends_here) == 0) {
-        site_of(one)->body(captured + one->captured);
+        one->site->body(captured + one->captured);
         if (!sends_bytes(one))
-            ended = (struct end){TRAPPED, OS_NO_BYTE, site_of(one)->line};
+            ended = (struct end){TRAPPED, OS_NO_BYTE, one->site->line};
     }
     return ended;
 }
@@ -381,8 +382,7 @@ static void read_input(const char *name)
     while (file != NULL && (count = fread(bytes, 1, sizeof bytes, file)) != 0) {
         if (count > INPUT - input_length)
             refuse(STATUS_LONG, "too long input\n");
-        if (cells < input_length + count)
-            streams[0].cells = more(streams[0].cells, cells = 2 * (input_length + count), sizeof(int32_t));
+        streams[0].cells = reserve(streams[0].cells, &cells, input_length + count, sizeof(int32_t));
         for (size_t at = 0; at < count; ++at)
             streams[0].cells[input_length++] = bytes[at];
     }
