@@ -4,3 +4,5 @@ pub mod Rows
 pub mod Units
 pub mod Sites
 pub mod Program
+-- What restates private functions.
+pub mod Targets

@@ -1,8 +1,8 @@
 -- The C of an instruction: a row of C for each. In the function of a unit, `v` is its slots, `s` its operand stack and `d` the height of
 -- that; `os_windows` are the windows of the task that runs. What begins with `os_` is the runtime's, `runtime/osrt.h`.
-use Rattle.std.specs.Prelude.{ℕ, ◌==◌, List, [], ◌++◌, Option, Some, None, codes, if◌then◌else◌, ℤ}
+use Rattle.std.specs.Prelude.{ℕ, Bool, false, ◌==◌, List, [], ◌++◌, Option, Some, None, codes, if◌then◌else◌, ℤ}
 use Rattle.std.specs.Fmt.{decimal, signed_decimal}
-use Rattle.std.specs.List.{flat_map, range_with_len}
+use Rattle.std.specs.List.{flat_map, list_any, range_with_len}
 use Rattle.std.specs.Option.{option_map_or}
 use Rattle.c_int.specs.declared.operators.Unary.{Unary as UnaryOperator}
 use Rattle.c_int.specs.declared.operators.Binary.{Binary as BinaryOperator}
@@ -12,6 +12,7 @@ use Rattle.os_code.specs.declared.instr.Instr.TheVariants.{ItemStore, Unary, Bin
 use Rattle.os_code.specs.declared.instr.Instr.TheVariants.{BurstOut, Spawn, Tick}
 use Rattle.os_code.specs.declared.unit.CodeUnit.{CodeUnit}
 use Rattle.os_code.specs.declared.parts.Parts.{Parts}
+use Rattle.os_code.specs.Effects.{jump_of}
 use Rattle.os_code.specs.Parts.{instr_at, unit_at}
 use Rattle.oscc_text.specs.Names.{unary_name, binary_name}
 
@@ -123,12 +124,23 @@ row code (BurstOut slot line) = burst_out_row slot line
 row code (Spawn site) = spawn_row site
 row code (Tick first) = tick_row first
 
--- The row of a place, behind the label that jumps go to.
-abbrev pub label : ℕ → List ℕ
-label place = codes "L" ++ decimal place ++ codes ": "
+-- whether some instruction jumps to a place
+abbrev pub goes_to : ℕ → Option ℕ → Bool
+goes_to place (Some to) = to == place
+goes_to place None = false
+
+abbrev pub is_target : Parts → ℕ → Bool
+is_target code place = list_any (λ instr. goes_to place (jump_of instr)) code.instrs
+
+-- The row of a place, behind a label where jumps go to it.
+abbrev pub label_text : ℕ → List ℕ
+label_text place = codes "L" ++ decimal place ++ codes ": "
+
+abbrev pub label_if : Bool → ℕ → List ℕ
+label_if target place = if target then label_text place else codes "    "
 
 abbrev pub labelled : Parts → ℕ → Instr → List ℕ
-labelled code place instr = label place ++ row code instr ++ codes "\n"
+labelled code place instr = label_if (is_target code place) place ++ row code instr ++ codes "\n"
 
 abbrev pub row_at : Parts → ℕ → List ℕ
 row_at code place = option_map_or (labelled code place) (instr_at code place) []

@@ -13,6 +13,7 @@ mod program;
 mod regions;
 mod rows;
 mod sites;
+mod targets;
 mod units;
 
 pub use program::c_text;

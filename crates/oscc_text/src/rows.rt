@@ -1,11 +1,12 @@
 //! A row of C for each instruction.
 
-ghost use Rattle.std.specs.Prelude.{◌≡◌, ◌≤◌, ◌-◌, ◌++◌, OnOk};
+ghost use Rattle.std.specs.Prelude.{◌≡◌, ◌<◌, ◌≤◌, ◌-◌, ◌++◌, length, OnOk};
 ghost use Rattle.os_code.specs.Codes.{parts_of};
 ghost use Rattle.os_code.specs.Parts.{unit_at};
 ghost use Rattle.oscc_text.specs.Rows.{args_of, binary_row, burst_in_row, burst_out_row, call_head, call_row, check_row, item_check_row};
-ghost use Rattle.oscc_text.specs.Rows.{item_load_row, item_store_row, label, labelled, load_row, push_row, row, row_at, rows, spawn_row};
+ghost use Rattle.oscc_text.specs.Rows.{item_load_row, item_store_row, is_target, label_if, label_text, labelled, load_row, push_row, row, row_at, rows, spawn_row};
 ghost use Rattle.oscc_text.specs.Rows.{store_row, tick_row, unary_row, window_row, zero_row};
+ghost use Rattle.oscc_text.specs.Targets.{AreTargets};
 
 use crate::lists::add_operands;
 use crate::names::{binary_name, unary_name};
@@ -288,39 +289,77 @@ fn add_row(told: &mut Text, code: &Code, instr: Instr) -> Result<(), Memory>
     }
 }
 
-/// Adds the label of a place.
-fn add_label(told: &mut Text, place: usize) -> Result<(), Memory>
-    ensures { OnOk result (told.new ≡ told.old ++ label place) }
+/// Adds a label.
+fn add_label_text(told: &mut Text, place: usize) -> Result<(), Memory>
+    ensures { OnOk result (told.new ≡ told.old ++ label_text place) }
 {
     add_one(told, b"L", place as u64, b": ")
 }
 
+/// Adds the label of a place, where jumps go to it.
+fn add_label(told: &mut Text, target: bool, place: usize) -> Result<(), Memory>
+    ensures { OnOk result (told.new ≡ told.old ++ label_if target place) }
+{
+    if target {
+        add_label_text(told, place)
+    } else {
+        told.add(b"    ")
+    }
+}
+
+/// Whether jumps go to a place.
+fn is_target(code: &Code, targets: &[bool], place: usize) -> bool
+    requires marked { AreTargets (parts_of code.now) targets.now }
+    requires inside { place < length code.now.instrs }
+    ensures { result ≡ is_target (parts_of code.now) place }
+{
+    targets[place]
+}
+
 /// Adds the row of an instruction behind its label.
-fn add_labelled(told: &mut Text, code: &Code, place: usize, instr: Instr) -> Result<(), Memory>
+fn add_labelled(
+    told: &mut Text,
+    code: &Code,
+    target: bool,
+    place: usize,
+    instr: Instr,
+) -> Result<(), Memory>
+    requires { target ≡ is_target (parts_of code.now) place }
     ensures { OnOk result (told.new ≡ told.old ++ labelled (parts_of code.now) place instr) }
 {
-    add_label(told, place)?;
+    add_label(told, target, place)?;
     add_row(told, code, instr)?;
     told.add(b"\n")
 }
 
 /// Adds the row of a place.
-fn add_row_at(told: &mut Text, code: &Code, place: usize) -> Result<(), Memory>
+fn add_row_at(told: &mut Text, code: &Code, targets: &[bool], place: usize) -> Result<(), Memory>
+    requires { AreTargets (parts_of code.now) targets.now }
     ensures { OnOk result (told.new ≡ told.old ++ row_at (parts_of code.now) place) }
 {
     match code.instrs.as_slice().get(place) {
-        Some(instr) => add_labelled(told, code, place, *instr),
+        Some(instr) => {
+            let target = is_target(code, targets, place);
+            add_labelled(told, code, target, place, *instr)
+        }
         None => Ok(()),
     }
 }
 
 /// Adds the rows of the places from one to another.
-pub(crate) fn add_rows(told: &mut Text, code: &Code, first: usize, end: usize) -> Result<(), Memory>
-    requires { first ≤ end }
+pub(crate) fn add_rows(
+    told: &mut Text,
+    code: &Code,
+    targets: &[bool],
+    first: usize,
+    end: usize,
+) -> Result<(), Memory>
+    requires marked { AreTargets (parts_of code.now) targets.now }
+    requires order { first ≤ end }
     ensures { OnOk result (told.new ≡ told.old ++ rows (parts_of code.now) first (end - first)) }
 {
     for place in first..end {
-        add_row_at(told, code, place)?;
+        add_row_at(told, code, targets, place)?;
     }
     Ok(())
 }

@@ -3,6 +3,7 @@
 ghost use Rattle.std.specs.Prelude.{◌≡◌, ◌<◌, ◌++◌, length, OnOk};
 ghost use Rattle.os_code.specs.Codes.{parts_of};
 ghost use Rattle.os_code.specs.NeedTables.{IsMarked};
+ghost use Rattle.oscc_text.specs.Targets.{AreTargets};
 ghost use Rattle.oscc_text.specs.Units.{operand_stack, signature, signature_head, slots, stack_slots, static_slots, unit_head};
 ghost use Rattle.oscc_text.specs.Units.{unit_text, unit_text_at, units_text};
 
@@ -10,6 +11,7 @@ use crate::lists::{add_parameters, add_stored_arguments};
 use crate::pieces::add_one;
 use crate::regions::{mark_starts, region_end};
 use crate::rows::add_rows;
+use crate::targets::mark_targets;
 use os_code::{Code, CodeUnit};
 use os_io::Memory;
 use osview_text::Text;
@@ -87,27 +89,36 @@ fn add_head(told: &mut Text, number: usize, unit: CodeUnit) -> Result<(), Memory
     add_stored_arguments(told, unit.args)
 }
 
+/// The places of a code that are marked: those at which units start, and those that jumps go to.
+#[derive(Clone, Copy)]
+struct Marks<'a> {
+    starts: &'a [bool],
+    targets: &'a [bool],
+}
+
 /// Adds the function of a unit.
 fn add_unit(
     told: &mut Text,
     code: &Code,
-    marks: &[bool],
+    marks: Marks<'_>,
     number: usize,
     unit: CodeUnit,
 ) -> Result<(), Memory>
-    requires marked { IsMarked (parts_of code.now) marks.now }
+    requires starts { IsMarked (parts_of code.now) marks.starts.now }
+    requires targets { AreTargets (parts_of code.now) marks.targets.now }
     requires inside { unit.start < length code.now.instrs }
     ensures { OnOk result (told.new ≡ told.old ++ unit_text (parts_of code.now) number unit) }
 {
     add_head(told, number, unit)?;
-    let end = region_end(code, marks, unit.start);
-    add_rows(told, code, unit.start as usize, end)?;
+    let end = region_end(code, marks.starts, unit.start);
+    add_rows(told, code, marks.targets, unit.start as usize, end)?;
     told.add(b"}\n\n")
 }
 
 /// Adds the function of the unit with a number.
-fn add_unit_at(told: &mut Text, code: &Code, marks: &[bool], number: usize) -> Result<(), Memory>
-    requires marked { IsMarked (parts_of code.now) marks.now }
+fn add_unit_at(told: &mut Text, code: &Code, marks: Marks<'_>, number: usize) -> Result<(), Memory>
+    requires starts { IsMarked (parts_of code.now) marks.starts.now }
+    requires targets { AreTargets (parts_of code.now) marks.targets.now }
     ensures { OnOk result (told.new ≡ told.old ++ unit_text_at (parts_of code.now) number) }
 {
     match code.units.as_slice().get(number) {
@@ -120,9 +131,14 @@ fn add_unit_at(told: &mut Text, code: &Code, marks: &[bool], number: usize) -> R
 pub(crate) fn add_units(alloc: Global, told: &mut Text, code: &Code) -> Result<(), Memory>
     ensures { OnOk result (told.new ≡ told.old ++ units_text (parts_of code.now)) }
 {
-    let marks = mark_starts(alloc, code)?;
+    let starts = mark_starts(alloc, code)?;
+    let targets = mark_targets(alloc, code)?;
+    let marks = Marks {
+        starts: &starts,
+        targets: &targets,
+    };
     for number in 0..code.units.len() {
-        add_unit_at(told, code, &marks, number)?;
+        add_unit_at(told, code, marks, number)?;
     }
     Ok(())
 }
