@@ -1,6 +1,6 @@
 //! From a text or an object to its C.
 
-ghost use Rattle.std.specs.Prelude.{◌≡◌, ◌×◌, ◌≤◌, ⊥, length, IfOk, IfErr, Err};
+ghost use Rattle.std.specs.Prelude.{◌≡◌, ◌≤◌, length, IfOk, IfErr, Err};
 ghost use Rattle.front_end.specs.Texts.{IsTrueOf};
 ghost use Rattle.os_code.specs.IsValid.{IsValid};
 ghost use Rattle.os_code.specs.declared.parts.Parts.{Parts as CodeParts};
