@@ -121,7 +121,7 @@ def drawn_item(outer, task, write, windows):
     """An item of a task, and what its body may do with it."""
     source = outer.source
     streams = ["osout", "s", "t[0]", "t[1]", "r"] if write else ["osin", "osin", "s", "t[0]", "t[1]", "r"]
-    stream = outer.pick(streams) if source.randrange(8) else f"t[{outer.expression(1)}]"
+    stream = outer.pick(streams) if source.randrange(25) else f"t[{outer.expression(1)}]"
     mark = "<<" if write else ">>"
     if source.randrange(3) == 0:
         name = outer.name("e")
@@ -131,10 +131,10 @@ def drawn_item(outer, task, write, windows):
             task.changes.append(name)
         return f"{stream} {mark} {name}"
     name, size = outer.name("w"), outer.pick([1, 2, 2, 3, 4])
-    shown = str(size) if source.randrange(12) else outer.expression(1)
+    shown = str(size) if source.randrange(30) else outer.expression(1)
     windows.append(f"{outer.pick(TYPES)} {name}[{shown}];")
     burst = shown if write or source.randrange(3) else str(source.randrange(4))
-    if source.randrange(25) == 0:
+    if source.randrange(40) == 0:
         burst = outer.expression(1)
     task.indexed.append((name, size))
     if write:
@@ -167,8 +167,8 @@ def drawn_part(outer, depth):
     if kind < 5 or depth == 0:
         return drawn_task(outer)
     if kind == 5:
-        stream = outer.pick(["osin", "s", "t[1]", f"t[{outer.expression(1)}]"])
-        return f"\n#pragma omp tick({stream} >> {outer.pick([*'0112', outer.expression(1)])})\n"
+        stream = outer.pick(["osin", "s", "t[1]"] * 5 + [f"t[{outer.expression(1)}]"])
+        return f"\n#pragma omp tick({stream} >> {outer.pick([*"011201120112", outer.expression(1)])})\n"
     if kind == 6:
         return outer.change(2)
     if kind == 7:
