@@ -168,7 +168,7 @@ def drawn_part(outer, depth):
         return drawn_task(outer)
     if kind == 5:
         stream = outer.pick(["osin", "s", "t[1]"] * 5 + [f"t[{outer.expression(1)}]"])
-        return f"\n#pragma omp tick({stream} >> {outer.pick([*"011201120112", outer.expression(1)])})\n"
+        return f"\n#pragma omp tick({stream} >> {outer.pick([*'011201120112', outer.expression(1)])})\n"
     if kind == 6:
         return outer.change(2)
     if kind == 7:
