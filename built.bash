@@ -49,13 +49,20 @@ record_of() {
     sed -n "s/^$2 //p" "$top/crates/$1/out/$1.built" 2>/dev/null
 }
 
-# is_built NAME: whether the record is of the sources, the kit and the program that are here, by their sums.
+# is_built NAME [KIT]: whether the record is of the sources, the program and the kit that are here, by their sums.
 is_built() {
-    local program=$top/crates/$1/out/$1 here
+    local program=$top/crates/$1/out/$1
     [ -x "$program" ] && [ -f "$program.built" ] || return
-    here=$(kit)
-    [ -z "$here" ] || [ "$(record_of "$1" kit)" = "$here" ] || return
+    [ -z "${2-}" ] || [ "$(record_of "$1" kit)" = "$2" ] || return
     [ "$(record_of "$1" program)" = "$(sum_of "$program")" ] && [ "$(record_of "$1" sources)" = "$(sum_of_sources "$1")" ]
+}
+
+# The commit that is checked out, and whether files were changed of which programs are made.
+commit() {
+    local head changed
+    head=$(git -C "$top" rev-parse HEAD 2>/dev/null) || head=none
+    changed=$(git -C "$top" status --porcelain -- crates crates.txt HANDLES 2>/dev/null)
+    echo "$head${changed:+ with changes}"
 }
 
 # What `--version` tells behind a version: of a commit the first eight digits, and whether there were changes; and a kit.

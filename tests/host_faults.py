@@ -17,8 +17,9 @@ import subprocess
 import sys
 import tempfile
 
-TOP = os.path.dirname(os.path.dirname(os.path.abspath(__file__)))
-OSRUN = f"{TOP}/crates/osrun/out/osrun"
+from programs import TOP, program
+
+OSRUN = program("osrun")
 RUN = ["run", "program.c", "input"]
 JOBS = {"a run": RUN, "a text that is refused": ["run", "refused.c", "input"], "bytes that are made": ["gen", "1", "2"]}
 WORKERS = ["1", "2", "7"]
