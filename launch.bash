@@ -50,7 +50,7 @@ if [ "$name" = osrun ] && [ "${1-}" = serve ]; then
     echo "$name: jobs are served by the proved program alone; ./build proves and builds it" >&2
     exit 70
 fi
-echo "$name: this machine hasn't proved the program yet: it runs by the toolchain with run-time checks, slowly; ./build proves and builds it" >&2
+echo "$name: this machine hasn't proved the program yet: the toolchain runs it with run-time checks, and takes two minutes or more to begin; ./build proves and builds it, and tells how long that takes" >&2
 
 # The toolchain runs it in a folder of its own, with a copy of each file that a word names: under its own name where that
 # stays below the folder, and else under another one. The value of an option names none. What a pipe has, as that of a
