@@ -158,7 +158,7 @@ check "a name that nobody declared" 3 "" "refused 10 line 2"
 awk '/^```c$/ { n++; on = 1; next } /^```$/ { on = 0 } on { print >("shown." n) }' "$top/README.md" "$top/docs/GUIDE.md"
 for shown in shown.*; do
     found=0
-    for example in "$top"/examples/*.c; do
+    for example in "$top"/examples/*.c "$top"/examples/forms/*.c; do
         [[ $(cat "$example") == *"$(cat "$shown")"* ]] && found=1
     done
     if [ "$found" = 1 ]; then
@@ -1698,6 +1698,45 @@ cat seed noisy >seeded
 run run "$top/examples/unnoise.c" seeded
 agree "a picture without its noise" 0 picture "control done / output 262144 of 262144"
 
+# The forms of the guide, over what is made of their inputs by another program.
+# formed NAME PROGRAM FILE EXPRESSION: runs a program, by 1 and by 4 workers; the expression gives the bytes that are wanted of `data`.
+formed() {
+    local workers
+    python3 -c 'import sys
+from functools import reduce
+with open(sys.argv[1], "rb") as file:
+    data = file.read()
+sys.stdout.buffer.write(bytes(eval(sys.argv[2])))' "$3" "$4" >wanted
+    for workers in 1 4; do
+        run run "$2" "$3" --workers "$workers"
+        agree "$1 over $3 by $workers workers" 0 wanted "control done / output $(wc -c <wanted) of $(wc -c <wanted)"
+    done
+}
+head -c 44 odd.bin >header.bin
+printf '12345678' >eight.bin
+sed 's/WIDTH/640/g' "$top/examples/forms/mirror.c" >mirror.c
+for file in odd.bin three.bin header.bin eight.bin nothing.bin; do
+    formed "bytes behind a header" "$top/examples/forms/header.c" "$file" '(255 - x for x in data[44:])'
+    formed "blocks and a rest" "$top/examples/forms/rest.c" "$file" \
+        '[x for at in range(0, len(data) - 7, 8) for x in data[at : at + 8][::-1]] + list(data[len(data) // 8 * 8 :])'
+    formed "rows that are turned round" mirror.c "$file" '[x for at in range(0, len(data) - 639, 640) for x in data[at : at + 640][::-1]]'
+    formed "blocks by their diagonals" "$top/examples/forms/zigzag.c" "$file" \
+        '[data[at + k] for at in range(0, len(data) - 15, 16) for k in sorted(range(16), key=lambda k: (k // 4 + k % 4, k // 4 if (k // 4 + k % 4) % 2 else k % 4))]'
+    formed "a hash of 64 bits" "$top/examples/forms/fnv.c" "$file" \
+        'reduce(lambda hash, x: (hash ^ x) * 0x100000001b3 & 2**64 - 1, data, 0xcbf29ce484222325).to_bytes(8, "big")'
+done
+
+# The header for editors: each example passes a C compiler's look, where one is here.
+if command -v gcc >/dev/null; then
+    for example in "$top"/examples/*.c "$top"/examples/forms/*.c; do
+        gcc -fsyntax-only -Wall -DWIDTH=640 -include "$top/examples/osin.h" "$example" >report 2>&1
+        status=$?
+        : >out
+        : >report
+        check "gcc over $(basename "$example")" 0 "" ""
+    done
+fi
+
 # Bits that are packed give back the bytes, of which those behind the last whole block are left out.
 # packed_bits FILE LENGTH: codes a file, packs and unpacks what was written, and decodes it; how long that is, another program counted.
 packed_bits() {
@@ -1805,12 +1844,14 @@ else
     echo "statuses of docs/COMMAND.md that docs/man/osrun.1 tells otherwise: $differs"
 fi
 
-# The rows of tests/rows.
-counted=$("$top/tests/rows.py")
-echo "$counted" | head -n -1
-read -r rows_passed _ rows_failed _ < <(echo "$counted" | tail -n 1)
-passed=$((passed + rows_passed))
-failed=$((failed + rows_failed))
+# The rows of tests/rows, and the command lines of the documents.
+for rows in rows lines; do
+    counted=$("$top/tests/$rows.py")
+    echo "$counted" | head -n -1
+    read -r rows_passed _ rows_failed _ < <(echo "$counted" | tail -n 1)
+    passed=$((passed + rows_passed))
+    failed=$((failed + rows_failed))
+done
 
 echo "$passed passed, $failed failed"
 [ "$failed" = 0 ]
