@@ -126,7 +126,6 @@ gen='seed 1 blocks 2
 input 8 sum 1363
 output 8 sum 1172
 status 0'
-# built: what --version of a folder of programs tells behind the version
 is "a folder with a blank in its name" "$("$work/a folder/bin/osrun" gen 1 2)" "$gen"
 ln -s "$work/a folder/bin/osrun" "$work/name"
 is "a name that leads to a program" "$("$work/name" gen 1 2)" "$gen"
@@ -163,9 +162,9 @@ else
     echo "lintian isn't here: the package isn't looked at"
 fi
 
-# files ROOT: what is in a folder of Debian's, but for what dpkg and the tests keep.
+# files ROOT: what is in a folder of Debian's, but for what dpkg and apt keep for themselves.
 files() {
-    (cd "$1" && find . -xdev \( -path ./proc -o -path ./sys -o -path ./dev -o -path ./tmp -o -path ./var/lib/dpkg -o -path ./var/log -o -path ./var/cache \) -prune -o -print | sort)
+    (cd "$1" && find . -xdev \( -path ./proc -o -path ./sys -o -path ./dev -o -path ./tmp -o -path ./var/lib/dpkg -o -path ./var/lib/apt -o -path ./var/log -o -path ./var/cache \) -prune -o -print | sort)
 }
 
 # What glibc of Debian 11, which is too old, says of the program.
