@@ -24,7 +24,7 @@ DIVIDED = bytes([2, 0, 5])
 PLAIN = bytes(number * 7 % 256 for number in range(100000))
 # More than four megabytes, with a last part that isn't full.
 LARGE = bytes(number * 7 % 256 for number in range(251)) * 20000
-INPUTS = {"examples/divide.c": DIVIDED, "cut.sh": LARGE, "work": LARGE, "adler.c": bytes(20000), "pipeline.c": b"twelve bytes", "mirror640.c": PLAIN[:64000]}
+INPUTS = {"examples/divide.c": DIVIDED, "cut.sh": LARGE, " work": LARGE, "adler.c": bytes(20000), "pipeline.c": b"twelve bytes", "mirror640.c": PLAIN[:64000]}
 # Statuses other than 0.
 OTHERS = {"./osview report examples/divide.c INPUT": 1, "./osview stream examples/divide.c INPUT osout": 1, "./osrun explain PROGRAM INPUT A": 1,
           "./osrun explain PROGRAM INPUT ACTIVATION": 1}
@@ -86,7 +86,7 @@ def give_files(room, lines):
         jobs.write("run examples/lift.c INPUT\n" * 3)
     first = ["./osrun", "compile", "PROGRAM"], "OBJECT"
     traced = ["./osrun", "trace", "PROGRAM", "INPUT"], "TRACE"
-    for words, name in (first, traced):
+    for words, name in (it for it in (first, traced) if it[1] in text):
         with open(f"{room}/{name}", "wb") as file:
             subprocess.run(words, cwd=room, stdout=file, stderr=subprocess.DEVNULL, check=False)
     if "lift.c work 8" in text:
