@@ -113,6 +113,16 @@ status=$?
 : >report
 check "a standard error that is closed" 6 04030201 ""
 
+# The least stack, and an output that may grow no further, where a script ignores the signal for it.
+(ulimit -s 64 && exec "$osrun_program" run first.c in.bin) >out 2>report
+status=$?
+check "the least stack" 0 04030201 "control done / output 4 of 4"
+(ulimit -f 1 && exec "$osrun" run "$top/examples/invert.c" "$top/README.md") >limited 2>report
+status=$?
+: >out
+: >report
+[ "$osrun" = "$osrun_program" ] || check "an output that may grow no further" 6 "" ""
+
 # The examples over four bytes.
 run run "$top/examples/invert.c" in.bin
 check "blocks that are inverted" 0 fefdfcfb "control done / output 4 of 4"
