@@ -28,10 +28,10 @@ version_of() {
     printf '%s, commit %s, %s\n' "$1" "$2" "$3" 2>/dev/null || exit 6
 }
 
-if [ -f "$program.built" ] && read -r _ built _ <"$program.built" && [ "$built" = "${commit:-none}" ]; then
+if [ -f "$program.built" ] && read -r _ built changes <"$program.built" && [ "$built" = "${commit:-none}" ]; then
     if [ "${1-}" = --version ] && [ "$name" != osrun ]; then
         told=$("$program" "$@") || exit
-        version_of "$told" "$(sed -n 's/^commit \(.\{8\}\)[^ ]*/\1/p' "$program.built")" "$(sed -n 's/^kit //p' "$program.built")"
+        version_of "$told" "${built:0:8}${changes:+ $changes}" "$(sed -n 's/^kit //p' "$program.built")"
         exit 0
     fi
     [ -t 2 ] || exec "$program" "$@"

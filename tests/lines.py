@@ -18,7 +18,7 @@ PAGES = ["README.md", "docs/GUIDE.md", "examples/README.md", "examples/many/READ
 PROGRAMS = ("osrun", "oscheck", "osview", "ospack")
 
 # Lines that aren't run: what they do is told beside them, and begins with these words.
-LEFT_OUT = ("rt ci", "./build", "./install", "./release", "git ", "tar ", "sudo ", "cp ", "sha256sum ", "osrun-1.0.0", "OSRUN_BIN=", "sbatch --array=0-7")
+LEFT_OUT = ("rt ci", "./build", "./install", "./release", "git ", "tar ", "sudo ", "mkdir ", "cp ", "sha256sum ", "osrun-1.0.0", "OSRUN_BIN=", "sbatch --array=0-7")
 # Where a line speaks of an input of its own: its bytes.
 DIVIDED = bytes([2, 0, 5])
 PLAIN = bytes(number * 7 % 256 for number in range(100000))
