@@ -6,7 +6,7 @@ program=$top/crates/$name/out/$name
 # A file that may grow no further fails the write then, and doesn't end the program: it has no call that says so itself.
 trap '' XFSZ
 
-# The commit that is checked out: a build leaves it beside the program as its stamp. Where it stands in no file of its own,
+# The commit that is checked out: a build leaves it beside the program, in its record. Where it stands in no file of its own,
 # git tells it.
 head=''
 commit=''
@@ -17,20 +17,23 @@ case $head in
 esac
 [ -n "$commit" ] || commit=$(git -C "$top" rev-parse HEAD 2>/dev/null)
 
-# What is told of refused words on a terminal, behind what the program told.
+# What is told of refused words on a terminal, after what the program told: the first block of the page of osrun's words.
 synopsis() {
     [ "$name" = osrun ] && [ "$1" = 2 ] && [ -t 2 ] || return 0
-    echo "osrun run PROGRAM INPUT [--workers N] [--budget N] [--control N]" >&2
-    echo "osrun gen SEED BLOCKS [--workers N]" >&2
-    echo "osrun compile PROGRAM" >&2
-    echo "osrun exec OBJECT INPUT [--workers N] [--budget N] [--control N]" >&2
-    echo "osrun explain PROGRAM INPUT ACTIVATION [--workers N] [--budget N] [--control N]" >&2
-    echo "osrun trace PROGRAM INPUT [--workers N] [--budget N] [--control N]" >&2
-    echo "osrun replay PROGRAM INPUT TRACE [--budget N] [--control N]" >&2
-    echo "osrun serve JOBS" >&2
+    sed -n '/^```text$/,/^```$/{/^```$/q;/^```text$/!p}' "$top/docs/COMMAND.md" >&2
 }
 
-if [ -f "$program.stamp" ] && read -r stamp <"$program.stamp" && [ "$stamp" = "${commit:-none}" ]; then
+# version_of TOLD COMMIT KIT: the version that the program told, with commit and kit.
+version_of() {
+    printf '%s, commit %s, %s\n' "$1" "$2" "$3" 2>/dev/null || exit 6
+}
+
+if [ -f "$program.built" ] && read -r _ built changes <"$program.built" && [ "$built" = "${commit:-none}" ]; then
+    if [ "${1-}" = --version ] && [ "$name" != osrun ]; then
+        told=$("$program" "$@") || exit
+        version_of "$told" "${built:0:8}${changes:+ $changes}" "$(sed -n 's/^kit //p' "$program.built")"
+        exit 0
+    fi
     [ -t 2 ] || exec "$program" "$@"
     "$program" "$@"
     status=$?
@@ -47,7 +50,7 @@ if [ "$name" = osrun ] && [ "${1-}" = serve ]; then
     echo "$name: jobs are served by the proved program alone; ./build proves and builds it" >&2
     exit 70
 fi
-echo "$name: this machine hasn't proved the program yet: it runs by the toolchain with run-time checks, slowly; ./build proves and builds it" >&2
+echo "$name: this machine hasn't proved the program yet: the toolchain runs it with run-time checks, and takes two minutes or more to begin; ./build proves and builds it, and tells how long that takes" >&2
 
 # The toolchain runs it in a folder of its own, with a copy of each file that a word names: under its own name where that
 # stays below the folder, and else under another one. The value of an option names none. What a pipe has, as that of a
@@ -82,8 +85,12 @@ done
 try() {
     (cd "$top/crates/$name" && rt try "${files[@]}" -- "${words[@]}") 2>"$said"
 }
+if [ "${1-}" = --version ] && [ "$name" != osrun ]; then
+    told=$(try)
+    status=$?
+    [ "$status" != 0 ] || version_of "$told" "${commit:0:8}" "$(rt version | head -n 1), not proved here"
 # oscheck tells names, osrun bytes and osview lines alone. What oscheck writes for the word --complete is no telling, but what it tells then is.
-if [ "$name" = oscheck ] && [ "${#names[@]}" != 0 ] && [ "${1-}" != --complete ]; then
+elif [ "$name" = oscheck ] && [ "${#names[@]}" != 0 ] && [ "${1-}" != --complete ]; then
     try | sed "${names[@]}"
     status=${PIPESTATUS[0]}
 else

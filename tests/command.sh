@@ -1,10 +1,9 @@
 #!/usr/bin/env bash
-# Runs the built program over real files and streams. The last line counts what passed and what failed.
+# Runs the built programs over real files and streams: those of the folder that OSRUN_BIN names, as /usr/bin, or else those of this checkout,
+# which ./build proves and builds first. The last line counts what passed and what failed.
 set -u
 top=$(cd "$(dirname "${BASH_SOURCE[0]}")/.." && pwd)
-osrun=$top/osrun
-program=$top/crates/osrun/out/osrun
-"$top/build" || exit 1
+. "$top/tests/programs.bash"
 work=$(mktemp -d)
 trap 'rm -rf "$work"' EXIT
 passed=0
@@ -102,17 +101,27 @@ run run first.c /dev/stdin <in.bin
 check "an input from standard input" 0 04030201 "control done / output 4 of 4"
 run run first.c /dev/stdin <&-
 check "an input from a standard input that is closed" 1 "" "starved 0 stream 0 position 0 producer none / control done / output 0 of 4"
-sh -c 'ulimit -n 4 && exec "$0" run first.c in.bin' "$program" >out 2>report
+sh -c 'ulimit -n 4 && exec "$0" run first.c in.bin' "$osrun_program" >out 2>report
 status=$?
 check "one descriptor beside the standard streams" 0 04030201 "control done / output 4 of 4"
 : >out
-"$program" run first.c in.bin >&- 2>report <&-
+"$osrun_program" run first.c in.bin >&- 2>report <&-
 status=$?
 check "a standard output that is closed" 6 "" ""
-"$program" run first.c in.bin >out 2>&-
+"$osrun_program" run first.c in.bin >out 2>&-
 status=$?
 : >report
 check "a standard error that is closed" 6 04030201 ""
+
+# The least stack, and an output that may grow no further, where a script ignores the signal for it.
+(ulimit -s 64 && exec "$osrun_program" run first.c in.bin) >out 2>report
+status=$?
+check "the least stack" 0 04030201 "control done / output 4 of 4"
+(ulimit -f 1 && exec "$osrun" run "$top/examples/invert.c" "$top/README.md") >limited 2>report
+status=$?
+: >out
+: >report
+[ "$osrun" = "$osrun_program" ] || check "an output that may grow no further" 6 "" ""
 
 # The examples over four bytes.
 run run "$top/examples/invert.c" in.bin
@@ -159,7 +168,7 @@ check "a name that nobody declared" 3 "" "refused 10 line 2"
 awk '/^```c$/ { n++; on = 1; next } /^```$/ { on = 0 } on { print >("shown." n) }' "$top/README.md" "$top/docs/GUIDE.md"
 for shown in shown.*; do
     found=0
-    for example in "$top"/examples/*.c; do
+    for example in "$top"/examples/*.c "$top"/examples/forms/*.c; do
         [[ $(cat "$example") == *"$(cat "$shown")"* ]] && found=1
     done
     if [ "$found" = 1 ]; then
@@ -170,9 +179,10 @@ for shown in shown.*; do
     fi
 done
 
-# The examples stand as texts in two crates, word for word.
-texts=$(cat "$top/crates/kernels/src/texts.rt" "$top/crates/example_texts/src/lib.rt")
+# The examples stand as texts in two crates, word for word, where the crates are here.
+texts=$(cat "$top/crates/kernels/src/texts.rt" "$top/crates/example_texts/src/lib.rt" 2>/dev/null)
 for example in "$top"/examples/*.c; do
+    [ -d "$top/crates" ] || continue
     if [[ $texts == *'r"'"$(cat "$example")"$'\n";'* ]]; then
         passed=$((passed + 1))
     else
@@ -1151,17 +1161,25 @@ status=$?
 check "a task of an array" 0 "" ""
 
 # Whichever allocation fails, the status is 7 and nothing is written, or the answer is that of ample memory. A run
-# makes fewer than 400 of them, and so do bytes that are made, objects and bad words.
+# makes fewer than 400 of them, and so do bytes that are made, objects and bad words. They fail by a library, which a C compiler makes.
 run compile first.c
 mv out first.o
 compiler=$(command -v cc || command -v clang || echo "$(dirname "$(readlink -f "$(command -v rt)")")/../toolchain/bin/clang")
-"$compiler" -shared -fPIC -nostdlib -O1 -o failing_allocation.so "$top/tests/failing_allocation.c"
+most=399 most_served=449
+if ! "$compiler" -shared -fPIC -nostdlib -O1 -o failing_allocation.so "$top/tests/failing_allocation.c" 2>/dev/null; then
+    echo "no C compiler is here: no allocation fails"
+    most=0 most_served=0
+fi
 # run_without NUMBER WORD..: runs the words, and lets the allocation of that number fail.
 run_without() {
-    LD_PRELOAD=$work/failing_allocation.so FAILING_ALLOCATION=$1 "$program" "${@:2}" >out 2>report
+    if [ "$most" = 0 ]; then
+        "$osrun_program" "${@:2}" >out 2>report
+    else
+        LD_PRELOAD=$work/failing_allocation.so FAILING_ALLOCATION=$1 "$osrun_program" "${@:2}" >out 2>report
+    fi
     status=$?
 }
-for number in $(seq 1 399); do
+for number in $(seq 1 "$most"); do
     run_without "$number" run first.c in.bin
     if [ "$status" = 7 ]; then
         check "allocation $number of a run fails" 7 "" ""
@@ -1193,15 +1211,15 @@ for number in $(seq 1 399); do
         check "allocation $number of bad words fails" 2 "" usage
     fi
 done
-run_without 1 run first.c in.bin
-check "the first allocation fails" 7 "" ""
+[ "$most" = 0 ] || run_without 1 run first.c in.bin
+[ "$most" = 0 ] || check "the first allocation fails" 7 "" ""
 # Of a server the job for which memory is wanted is answered so, and no other; or the server itself ends, behind the answers before.
 printf 'job 0 status 0 out 4 report 27\n\004\003\002\001control done\noutput 4 of 4\n' >first.7
 printf 'job 1 status 2 out 0 report 6\nusage\n' | cat first.7 - >both.0
 printf 'job 0 status 7 out 0 report 0\njob 1 status 2 out 0 report 6\nusage\n' >first_wants.0
 printf 'job 1 status 7 out 0 report 0\n' | cat first.7 - >second_wants.0
 : >none.7
-for number in $(seq 1 449); do
+for number in $(seq 1 "$most_served"); do
     run_without "$number" serve two.jobs
     wanted=both.0
     for front in *."$status"; do
@@ -1224,13 +1242,13 @@ check "bad words make fewer allocations" 2 "" usage
 
 # The program that judges files.
 : >"$work/out"
-"$top/oscheck" first.c empty.c none.c >"$work/report" 2>&1
+"$oscheck" first.c empty.c none.c >"$work/report" 2>&1
 status=$?
 check "files that are judged" 2 "" "first.c: accepted / empty.c:1: error 23: no function main without parameters: write int main(void) / none.c: can't be read"
 # judges NAME STATUS REPORT WORD..: judges files, and compares what is told of them, together with the output.
 judges() {
     : >out
-    "$top/oscheck" "${@:4}" >report 2>&1
+    "$oscheck" "${@:4}" >report 2>&1
     status=$?
     check "$1" "$2" "" "$3"
 }
@@ -1240,15 +1258,13 @@ judges "a name that isn't text" 2 "in\\xff\\t.c: its name isn't text" "$strange"
 judges "a file whose name isn't text, between others" 2 "first.c: accepted / in\\xff\\t.c: its name isn't text / first.c: accepted" \
     first.c "$strange" first.c
 rm "$strange"
-judges "the version" 0 "oscheck 1.0" --version
-judges "the version before a file" 0 "oscheck 1.0" --version none.c
 printf 'int main(void) {\n    int spare;\n}\n' >spare.c
 warned="spare.c:2:9: warning: nothing uses 'spare': take it out /     2 |     int spare; /       |         ^~~~~"
 judges "a program with a warning" 0 "$warned / spare.c: accepted / first.c: accepted" spare.c first.c
 judges "a program with a warning that is an error" 1 "$warned / spare.c: refused for its warnings / first.c: accepted" --werror spare.c first.c
 judges "no warning that is an error" 0 "first.c: accepted" --werror first.c
 { printf 'int main(void) {\n'; for number in $(seq 22); do echo "int spare$number;"; done; echo '}'; } >spares.c
-"$top/oscheck" spares.c >told 2>&1
+"$oscheck" spares.c >told 2>&1
 status=$?
 grep -c warning: told >report
 tail -n 2 told >>report
@@ -1258,7 +1274,7 @@ judges "the first warning" 0 "spares.c:2:5: warning: nothing uses 'spare1': take
 # tells NAME WANTED WORD..: compares how many errors are told of many.c, and the last line.
 { printf 'int main(void) {\n'; for number in $(seq 22); do echo "y = x;"; done; echo '}'; } >many.c
 tells() {
-    "$top/oscheck" "${@:3}" many.c >told 2>&1
+    "$oscheck" "${@:3}" many.c >told 2>&1
     status=$?
     grep -c error told >report
     grep '^many.c' told | tail -n 1 | cut -c -60 >>report
@@ -1272,7 +1288,7 @@ tells() {
     printf ' + v%s' $(seq 65)
     printf ';\n}\n'
 } >deep.c
-"$top/oscheck" deep.c >told 2>&1
+"$oscheck" deep.c >told 2>&1
 status=$?
 grep -o '^deep.c[:0-9]* error [0-9]*' told >report
 : >out
@@ -1282,7 +1298,7 @@ tells "the first error" "1 / many.c:2:1: error 10: 'y' isn't declared here: decl
 tells "all errors" "44 / many.c:23:5: error 10: 'x' isn't declared here: declare it b" --all
 judges "a word that is no option" 2 "--al: no option, and no file that can be read / first.c: accepted" --al first.c
 judges "an option behind a file" 2 "first.c: accepted / --version: no option, and no file that can be read" first.c --version
-"$top/oscheck" --help >help 2>report
+"$oscheck" --help >help 2>report
 status=$?
 : >out
 check "help" 0 "" ""
@@ -1292,18 +1308,20 @@ check "the front of the help" 0 "" "oscheck judges OpenStream programs as a comp
 # judge_without NUMBER WORD..: judges files, and lets the allocation of that number fail.
 judge_without() {
     : >out
-    LD_PRELOAD=$work/failing_allocation.so FAILING_ALLOCATION=$1 "$top/crates/oscheck/out/oscheck" "${@:2}" >report 2>&1
+    LD_PRELOAD=$work/failing_allocation.so FAILING_ALLOCATION=$1 "$oscheck_program" "${@:2}" >report 2>&1
     status=$?
 }
-judge_without 1 first.c
-check "no memory for the words of a judge" 2 "" "memory ran out"
-judge_without 20 first.c empty.c
-check "no memory for a file that is judged" 2 "" "first.c: memory ran out / empty.c:1: error 23: no function main without parameters: write int main(void)"
+if [ "$most" != 0 ]; then
+    judge_without 1 first.c
+    check "no memory for the words of a judge" 2 "" "memory ran out"
+    judge_without 20 first.c empty.c
+    check "no memory for a file that is judged" 2 "" "first.c: memory ran out / empty.c:1: error 23: no function main without parameters: write int main(void)"
+fi
 # stops NAME TEXT WANTED: compares the first line that is told of a text that is no program.
 stops() {
     printf '%b' "$2" >stop.c
     : >out
-    "$top/oscheck" stop.c >told 2>&1
+    "$oscheck" stop.c >told 2>&1
     status=$?
     head -n 1 told >report
     check "$1" 1 "" "stop.c:$3"
@@ -1317,7 +1335,7 @@ stops "a pragma of no kind" 'int main(void) {\n#pragma omp tusk\n}\n' "2:13: err
 stops "a pragma with more behind it" 'int main(void) {\n#pragma omp taskwait 1\n}\n' "2:22: error 4: expected the end of the line, found '1'"
 stops "a pragma that ends early" 'int main(void) {\n#pragma omp tick(s >>\n1)\n}\n' "2:22: error 4: expected an expression, found the end of the line"
 # Each text of tests/told with what is told of it: above all what C has and this language hasn't.
-(cd "$top/tests/told" && "$top/oscheck" ./*.c) >told 2>&1
+(cd "$top/tests/told" && "$oscheck" ./*.c) >told 2>&1
 status=$?
 cat "$top"/tests/told/*.told | sed 's|^\([a-z_]*\.c:\)|./\1|' >wanted
 : >out
@@ -1327,7 +1345,7 @@ check "texts in tests/told" 1 "" ""
 shows() {
     printf '%b' "$2" >stop.c
     : >out
-    "$top/oscheck" stop.c >report 2>&1
+    "$oscheck" stop.c >report 2>&1
     status=$?
     check "$1" 1 "" "stop.c:$3"
 }
@@ -1350,7 +1368,7 @@ shows "a long line" "int main(void) {$blanks x = 1;$blanks }\n" \
 # completes NAME STATUS TEXT OUT REPORT: asks for a program that begins as a text does; in OUT the lines are parted by " / ".
 completes() {
     printf '%b' "$3" >stop.c
-    "$top/oscheck" --complete stop.c >out 2>report
+    "$oscheck" --complete stop.c >out 2>report
     status=$?
     sed -e ':a' -e '$!{N;ba' -e '}' -e 's|\n| / |g' out >whole
     printf '%s\n' "$4" >wanted
@@ -1363,14 +1381,14 @@ completes "a pragma that is cut in a comment, completed" 0 'int main(void) {\n#p
 completes "a pragma without its line's end, completed" 0 'int main(void) {\n#pragma omp task' "int main(void) { / #pragma omp task /  ; }" ""
 completes "a program, completed" 0 'int main(void) {\n x = 1; }\n' "int main(void) { /  x = 1; }" ""
 completes "a text with a byte that begins no token, completed" 1 'int main(void) { $' "" "stop.c:1:18: error 1: '\$' begins no token: take it out /     1 | int main(void) { \$ /       |                  ^"
-"$top/oscheck" --complete stop.c none.c >out 2>report
+"$oscheck" --complete stop.c none.c >out 2>report
 status=$?
 check "files that can't be completed" 2 "" "stop.c:1:18: error 1: '\$' begins no token: take it out /     1 | int main(void) { \$ /       |                  ^ / none.c: can't be read"
 
 # The program that packs slots.
 # packs NAME STATUS INPUT OUT REPORT WORD..: runs it over an input; the output is compared in hexadecimal.
 packs() {
-    printf '%b' "$3" | "$top/ospack" "${@:6}" >out 2>report
+    printf '%b' "$3" | "$ospack" "${@:6}" >out 2>report
     status=$?
     check "$1" "$2" "$4" "$5"
 }
@@ -1389,22 +1407,24 @@ for words in "" pack "pack 1" "pack 65537" "pack x" "pack -8" "pack 8 8" "shrink
     packs "words that ask for no packing: $words" 2 '' "" usage $words
 done
 packs "the largest slot" 0 '\000\000' "$(printf '00%.0s' $(seq 65536))" "" unpack 65536
-printf '\001\000a' | "$top/ospack" pack 3 >/dev/full 2>report
+printf '\001\000a' | "$ospack" pack 3 >/dev/full 2>report
 status=$?
 : >out
 check "slots for a full disk" 6 "" "write fault"
-"$top/ospack" pack 8 <folder >out 2>report
+"$ospack" pack 8 <folder >out 2>report
 status=$?
 check "a folder for slots" 5 "" "read fault"
-LD_PRELOAD=$work/failing_allocation.so FAILING_ALLOCATION=1 "$top/crates/ospack/out/ospack" pack 8 </dev/null >out 2>report
-status=$?
-check "no memory for the words of a packer" 7 "" "out of memory"
+if [ "$most" != 0 ]; then
+    LD_PRELOAD=$work/failing_allocation.so FAILING_ALLOCATION=1 "$ospack_program" pack 8 </dev/null >out 2>report
+    status=$?
+    check "no memory for the words of a packer" 7 "" "out of memory"
+fi
 
 # The program that shows runs.
 # shows NAME STATUS LINES WORD..: asks it for something, and compares what it tells.
 shows() {
     : >out
-    "$top/osview" "${@:4}" >report 2>&1
+    "$osview" "${@:4}" >report 2>&1
     status=$?
     check "$1" "$2" "" "$3"
 }
@@ -1593,8 +1613,7 @@ shows "a program that is refused, and not run" 3 "refused 23 line 1" report empt
 shows "a program that is refused, and none of whose streams is shown" 3 "refused 23 line 1" stream empty.c in.bin none
 shows "an input that is too long to be shown" 4 "too long input" report first.c long.bin
 shows "a folder for a program that is shown" 5 "read fault program" report folder in.bin
-shows "the version of what shows" 0 "osview 1.0" --version
-"$top/osview" --help >help 2>report
+"$osview" --help >help 2>report
 status=$?
 : >out
 check "help of what shows" 0 "" ""
@@ -1608,11 +1627,11 @@ for words in "" report "report first.c" "report first.c in.bin in.bin" "stream f
     # shellcheck disable=SC2086
     shows "words that ask for nothing to be shown: $words" 2 "$(sed -e ':a' -e '$!{N;ba' -e '}' -e 's|\n| / |g' help)" $words
 done
-"$top/osview" report first.c in.bin >/dev/full 2>report
+"$osview" report first.c in.bin >/dev/full 2>report
 status=$?
 : >out
 check "a report in sentences for a full disk" 6 "" ""
-"$top/osview" stream first.c in.bin osout >/dev/full 2>report
+"$osview" stream first.c in.bin osout >/dev/full 2>report
 status=$?
 : >out
 check "a stream for a full disk" 6 "" ""
@@ -1621,17 +1640,19 @@ if command -v dot >/dev/null; then
     : >out
     check "graphs that Graphviz draws" 0 "" "4 pictures"
 fi
-LD_PRELOAD=$work/failing_allocation.so FAILING_ALLOCATION=1 "$top/crates/osview/out/osview" report first.c in.bin >out 2>report
-status=$?
-check "no memory for the words of what shows" 7 "" ""
+if [ "$most" != 0 ]; then
+    LD_PRELOAD=$work/failing_allocation.so FAILING_ALLOCATION=1 "$osview_program" report first.c in.bin >out 2>report
+    status=$?
+    check "no memory for the words of what shows" 7 "" ""
+fi
 
 # A coder of pictures that writes slots: what is packed is as long as the guide says, and gives back the picture. So does noise,
 # which is packed as it is.
 # squeezed NAME FILE LENGTH: codes a file, packs and unpacks what was written, and decodes it.
 squeezed() {
     run run "$top/examples/squeeze.c" "$2"
-    "$top/ospack" pack 4099 <out >packed
-    "$top/ospack" unpack 4099 <packed >slots
+    "$ospack" pack 4099 <out >packed
+    "$ospack" unpack 4099 <packed >slots
     run run "$top/examples/unsqueeze.c" slots
     if [ "$status" = 0 ] && cmp -s "$2" out && [ "$(wc -c <packed)" = "$3" ]; then
         passed=$((passed + 1))
@@ -1687,13 +1708,54 @@ cat seed noisy >seeded
 run run "$top/examples/unnoise.c" seeded
 agree "a picture without its noise" 0 picture "control done / output 262144 of 262144"
 
+# The forms of the guide, over what is made of their inputs by another program.
+# formed NAME PROGRAM FILE EXPRESSION: runs a program, by 1 and by 4 workers; the expression gives the bytes that are wanted of `data`.
+formed() {
+    local workers
+    python3 -c 'import sys
+from functools import reduce
+with open(sys.argv[1], "rb") as file:
+    data = file.read()
+sys.stdout.buffer.write(bytes(eval(sys.argv[2])))' "$3" "$4" >wanted
+    for workers in 1 4; do
+        run run "$2" "$3" --workers "$workers"
+        agree "$1 over $3 by $workers workers" 0 wanted "control done / output $(wc -c <wanted) of $(wc -c <wanted)"
+    done
+}
+head -c 44 odd.bin >header.bin
+printf '12345678' >eight.bin
+sed 's/WIDTH/640/g' "$top/examples/forms/mirror.c" >mirror.c
+for file in odd.bin three.bin header.bin eight.bin nothing.bin; do
+    formed "bytes behind a header" "$top/examples/forms/header.c" "$file" '(255 - x for x in data[44:])'
+    formed "blocks and a rest" "$top/examples/forms/rest.c" "$file" \
+        '[x for at in range(0, len(data) - 7, 8) for x in data[at : at + 8][::-1]] + list(data[len(data) // 8 * 8 :])'
+    formed "rows that are turned round" mirror.c "$file" '[x for at in range(0, len(data) - 639, 640) for x in data[at : at + 640][::-1]]'
+    formed "blocks by their diagonals" "$top/examples/forms/zigzag.c" "$file" \
+        '[data[at + k] for at in range(0, len(data) - 15, 16) for k in sorted(range(16), key=lambda k: (k // 4 + k % 4, k // 4 if (k // 4 + k % 4) % 2 else k % 4))]'
+    formed "a hash of 64 bits" "$top/examples/forms/fnv.c" "$file" \
+        'reduce(lambda hash, x: (hash ^ x) * 0x100000001b3 & 2**64 - 1, data, 0xcbf29ce484222325).to_bytes(8, "big")'
+done
+
+# The header for editors: each example passes a C compiler's look, where one is here.
+if command -v gcc >/dev/null; then
+    for example in "$top"/examples/*.c "$top"/examples/forms/*.c; do
+        width=''
+        [ "$(basename "$example")" != mirror.c ] || width=-DWIDTH=640
+        gcc -fsyntax-only -Wall $width -include "$top/examples/osin.h" "$example" >report 2>&1
+        status=$?
+        : >out
+        : >report
+        check "gcc over $(basename "$example")" 0 "" ""
+    done
+fi
+
 # Bits that are packed give back the bytes, of which those behind the last whole block are left out.
 # packed_bits FILE LENGTH: codes a file, packs and unpacks what was written, and decodes it; how long that is, another program counted.
 packed_bits() {
     head -c $(($(wc -c <"$1") / 256 * 256)) "$1" >wanted
     run run "$top/examples/rice.c" "$1"
-    "$top/ospack" pack 259 <out >packed
-    "$top/ospack" unpack 259 <packed >slots
+    "$ospack" pack 259 <out >packed
+    "$ospack" unpack 259 <packed >slots
     run run "$top/examples/unrice.c" slots
     if [ "$status" = 0 ] && cmp -s wanted out && [ "$(wc -c <packed)" = "$2" ]; then
         passed=$((passed + 1))
@@ -1707,27 +1769,64 @@ packed_bits odd.bin 4144
 packed_bits picture 168520
 packed_bits nothing.bin 0
 
-# Where the program isn't built, or was built from another commit, the toolchain runs it, and the first line says so.
-copy=$work/copy
-mkdir "$copy"
-(cd "$top" && tar --exclude=out --exclude=.git -cf - .) | tar -C "$copy" -xf -
-run_copy() {
-    "$copy/osrun" "$@" >"$work/out" 2>"$work/said"
+# Where the program isn't built, or was built from another commit, the toolchain runs it, and the first line says so. That is of a checkout alone.
+unbuilt() {
+    local copy=$work/copy
+    mkdir "$copy"
+    (cd "$top" && tar --exclude=out --exclude=.git -cf - .) | tar -C "$copy" -xf -
+    run_copy() {
+        "$copy/osrun" "$@" >"$work/out" 2>"$work/said"
+        status=$?
+        head -n 1 "$work/said" | grep -q "hasn't proved" || status="$status, not told"
+        tail -n +2 "$work/said" >"$work/report"
+    }
+    run_copy run first.c short.bin
+    check "a program that isn't built" 1 "" "starved 0 stream 0 position 2 producer none / control done / output 0 of 4"
+    mkdir -p "$copy/crates/osrun/out"
+    printf '#!/bin/sh\necho old\n' >"$copy/crates/osrun/out/osrun"
+    chmod +x "$copy/crates/osrun/out/osrun"
+    echo "commit another" >"$copy/crates/osrun/out/osrun.built"
+    run_copy run "$work/first.c" "$work/in.bin"
+    check "a program of another commit" 0 04030201 "control done / output 4 of 4"
+    (cd "$work/folder" && PATH=/usr/bin:/bin "$copy/osrun" run ../first.c ../in.bin >"$work/out" 2>"$work/report")
     status=$?
-    head -n 1 "$work/said" | grep -q "hasn't proved" || status="$status, not told"
-    tail -n +2 "$work/said" >"$work/report"
+    check "no toolchain" 69 "" "osrun: the command rt of the Rattle kit isn't here; README.md, \"Two commands\", says what it is for"
 }
-run_copy run first.c short.bin
-check "a program that isn't built" 1 "" "starved 0 stream 0 position 2 producer none / control done / output 0 of 4"
-mkdir -p "$copy/crates/osrun/out"
-printf '#!/bin/sh\necho old\n' >"$copy/crates/osrun/out/osrun"
-chmod +x "$copy/crates/osrun/out/osrun"
-echo another >"$copy/crates/osrun/out/osrun.stamp"
-run_copy run "$work/first.c" "$work/in.bin"
-check "a program of another commit" 0 04030201 "control done / output 4 of 4"
-(cd "$work/folder" && PATH=/usr/bin:/bin "$copy/osrun" run ../first.c ../in.bin >"$work/out" 2>"$work/report")
+[ -n "${OSRUN_BIN-}" ] || unbuilt
+
+# Each program that has --version tells that of the file VERSION, as the man pages and the changelog do; what people call tells commit and kit too, the same for all.
+version=$(cat "$top/VERSION")
+built='commit ([0-9a-f]{8}|none)( with changes)?, rattle-kit-[^ ]+ logic [0-9a-f]+'
+for name in oscheck osview ospack; do
+    program=${name}_program
+    "${!program}" --version >out 2>report
+    status=$?
+    echo "$name $version" >wanted
+    agree "the version of the program $name" 0 wanted ""
+    "${!name}" --version >out 2>report
+    status=$?
+    [ "${!name}" = "${!program}" ] || sed -E "s/^($name $version), $built\$/\1/" out >told
+    [ "${!name}" = "${!program}" ] || { sed "s/^$name //" out >>versions; mv told out; }
+    agree "the version of $name, with commit and kit" 0 wanted ""
+    "${!name}" --version >/dev/full 2>report
+    status=$?
+    : >out
+    [ "${!name}" = "${!program}" ] || check "the version of $name for a full disk" 6 "" ""
+done
+sort -u versions 2>/dev/null | tail -n +2 >report
+: >out
+status=0
+check "the same version, commit and kit of all" 0 "" ""
+"$oscheck" --version none.c >out 2>report
 status=$?
-check "no toolchain" 69 "" "osrun: the command rt of the Rattle kit isn't here; README.md, \"Two commands\", says what it is for"
+sed -i -E "s/, $built\$//" out
+echo "oscheck $version" >wanted
+agree "the version before a file" 0 wanted ""
+grep -L "^\.TH [A-Z]* 1 [0-9-]* \"osrun $version\" \"User commands\"\$" "$top"/docs/man/*.1 >report
+grep -m 1 '^## ' "$top/CHANGELOG.md" | grep -v -x "## $version" >>report
+status=0
+: >out
+check "man pages and a changelog of another version" 0 "" ""
 
 # The man page has each status of the table in docs/COMMAND.md, with the words that stand there for it and what is told with it.
 differs=$(python3 -c 'import re, shlex, sys
@@ -1757,12 +1856,14 @@ else
     echo "statuses of docs/COMMAND.md that docs/man/osrun.1 tells otherwise: $differs"
 fi
 
-# The rows of tests/rows.
-counted=$("$top/tests/rows.py")
-echo "$counted" | head -n -1
-read -r rows_passed _ rows_failed _ < <(echo "$counted" | tail -n 1)
-passed=$((passed + rows_passed))
-failed=$((failed + rows_failed))
+# The rows of tests/rows, and the command lines of the documents.
+for rows in rows lines; do
+    counted=$("$top/tests/$rows.py")
+    echo "$counted" | head -n -1
+    read -r rows_passed _ rows_failed _ < <(echo "$counted" | tail -n 1)
+    passed=$((passed + rows_passed))
+    failed=$((failed + rows_failed))
+done
 
 echo "$passed passed, $failed failed"
 [ "$failed" = 0 ]

@@ -19,9 +19,10 @@ import subprocess
 import sys
 import tempfile
 
-from rows import TOP, lines, unfolded
+from programs import TOP, called
+from rows import lines, unfolded
 
-OSCHECK = f"{TOP}/oscheck"
+OSCHECK = called("oscheck")
 # As many files are judged by one call: where the toolchain runs the program, a call has two minutes.
 CALL = 50
 

@@ -17,8 +17,9 @@ import subprocess
 import sys
 import tempfile
 
-TOP = os.path.dirname(os.path.dirname(os.path.abspath(__file__)))
-OSRUN = f"{TOP}/crates/osrun/out/osrun"
+from programs import TOP, called, program
+
+OSRUN = program("osrun")
 RUN = ["run", "program.c", "input"]
 JOBS = {"a run": RUN, "a text that is refused": ["run", "refused.c", "input"], "bytes that are made": ["gen", "1", "2"]}
 WORKERS = ["1", "2", "7"]
@@ -125,7 +126,7 @@ def main():
             made = subprocess.run([OSRUN, *RUN], stdout=full, stderr=subprocess.PIPE, timeout=60, check=False)
         ask("an output that is full", (made.returncode, made.stderr) == (6, b""), made)
         with open("limited", "wb") as file:
-            made = subprocess.run([f"{TOP}/osrun", *RUN], stdout=file, stderr=subprocess.PIPE, timeout=60, check=False, preexec_fn=limited)
+            made = subprocess.run([called("osrun"), *RUN], stdout=file, stderr=subprocess.PIPE, timeout=60, check=False, preexec_fn=limited)
         with open("limited", "rb") as file:
             out = file.read()
         ask("an output that is limited in length", (made.returncode, made.stderr, out) == (6, b"", whole[1][:7]), (made, out))

@@ -16,8 +16,9 @@ import subprocess
 import sys
 import tempfile
 
-TOP = os.path.dirname(os.path.dirname(os.path.abspath(__file__)))
-OSRUN = f"{TOP}/crates/osrun/out/osrun"
+from programs import TOP, program
+
+OSRUN = program("osrun")
 WORKERS = ["1", "2", "7"]
 # More requests than any of the runs makes.
 MOST = 20000

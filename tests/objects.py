@@ -22,9 +22,9 @@ import tempfile
 sys.dont_write_bytecode = True
 sys.path.insert(0, os.path.dirname(os.path.abspath(__file__)))
 from object import BINARY, INSTRUCTIONS, MARK, SHOWN, UNARY, Item, NoParts, Parts, Site, Unit, read  # noqa: E402
+from programs import TOP, program  # noqa: E402
 
-TOP = os.path.dirname(os.path.dirname(os.path.abspath(__file__)))
-OSRUN = os.environ.get("OSRUN", f"{TOP}/crates/osrun/out/osrun")
+OSRUN = os.environ.get("OSRUN", program("osrun"))
 EXAMPLES = ["first", "lift"]
 VALUES = (0, 1, 2, 18, 25, 127, 128, 255)
 BUDGETS = "--budget 2000 --control 2000"

@@ -12,9 +12,10 @@ import subprocess
 import sys
 import tempfile
 
-TOP = os.path.dirname(os.path.dirname(os.path.abspath(__file__)))
-OSRUN = f"{TOP}/crates/osrun/out/osrun"
-OSCHECK = f"{TOP}/crates/oscheck/out/oscheck"
+from programs import TOP, program
+
+OSRUN = program("osrun")
+OSCHECK = program("oscheck")
 
 
 def unfolded(text):

@@ -5,15 +5,12 @@
 # `examples/smooth.c`, has forty activations that can all run at once; it is run over the bytes 0 to 41, whose means by three are the
 # bytes 1 to 40. The last line is `N passed, M failed`.
 #
-#     tests/schedules.sh [RUNS]       10,000 runs of each, where no number is given; ./build has to have built the program
+#     tests/schedules.sh [RUNS]       10,000 runs of each, where no number is given
 set -u
 top=$(cd "$(dirname "${BASH_SOURCE[0]}")/.." && pwd)
-program=$top/crates/osrun/out/osrun
+. "$top/tests/programs.bash"
+program=$osrun_program
 runs=${1:-10000}
-if [ ! -x "$program" ]; then
-    echo "tests/schedules.sh: $program isn't there: call ./build" >&2
-    exit 2
-fi
 work=$(mktemp -d)
 trap 'rm -rf "$work"' EXIT
 cd "$work" || exit 2

@@ -2,15 +2,12 @@
 # Traces `examples/smooth.c` over 4,000 bytes many times, by several numbers of workers, and runs it by each trace. Each trace has to be
 # whole, with the same bytes and the same report. The last line is `N passed, M failed`.
 #
-#     tests/traces.sh [RUNS]       1,000 runs, where no number is given; ./build has to have built the program
+#     tests/traces.sh [RUNS]       1,000 runs, where no number is given
 set -u
 top=$(cd "$(dirname "${BASH_SOURCE[0]}")/.." && pwd)
-program=$top/crates/osrun/out/osrun
+. "$top/tests/programs.bash"
+program=$osrun_program
 runs=${1:-1000}
-if [ ! -x "$program" ]; then
-    echo "tests/traces.sh: $program isn't there: call ./build" >&2
-    exit 2
-fi
 work=$(mktemp -d)
 trap 'rm -rf "$work"' EXIT
 cd "$work" || exit 2

@@ -1,6 +1,8 @@
 #!/usr/bin/env bash
 # Cuts a file into parts: cut.sh INPUT BLOCK OVERLAP FOLDER. Each part has BLOCK bytes, fewer only the last, and but for the first the
 # OVERLAP bytes that stand before them. The parts are FOLDER/part.000000 and so on, in the order of the input.
+# A run has at most 65,536 activations, and windows over at most 4,194,304 elements: a program that takes four bytes an activation, as lift.c,
+# takes parts of at most 262,144 bytes, and one that takes a byte, as smooth.c, parts of at most 65,536.
 set -eu
 [ $# = 4 ] || { echo "cut.sh INPUT BLOCK OVERLAP FOLDER" >&2; exit 2; }
 input=$1 block=$2 overlap=$3 folder=$4
@@ -20,4 +22,4 @@ while [ "$begin" -lt "$size" ] || [ "$part" = 0 ]; do
     begin=$((begin + block))
     part=$((part + 1))
 done
-echo "$part parts"
+echo "$part parts; a program that takes $(((block + 65535) / 65536)) bytes an activation or more can take them"

@@ -2,8 +2,8 @@
 
 use std::io;
 
-/// What `--version` tells.
-const VERSION: &str = "oscheck 1.0";
+/// What `--version` tells: the version in the file VERSION of the repository.
+const VERSION: &str = "oscheck 1.0.0";
 
 /// What is told where no file is named, or help is asked for.
 const HELP: &str = "\

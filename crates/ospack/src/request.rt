@@ -1,6 +1,7 @@
 //! What the words ask for.
 
 ghost use Rattle.std.specs.Prelude.{◌≤◌, IfSome};
+ghost use Rattle.ospack.specs.Words.{IsLawful, IsWithin};
 ghost use Rattle.ospack_slots.specs.Limits.{slot_limit};
 
 use ospack_slots::SLOT_LIMIT;
@@ -15,35 +16,62 @@ pub(crate) enum Way {
     Unpack,
 }
 
-/// What is to be done.
+/// A conversion of standard input.
 #[derive(Clone, Copy, Debug)]
-pub(crate) struct Request {
+pub(crate) struct Conversion {
     pub(crate) way: Way,
     /// How many bytes a slot has.
     pub(crate) size: u32,
 }
 
-/// What the words ask for, if they do: the name of a way and the size of a slot.
+/// What is to be done.
+#[derive(Clone, Copy, Debug)]
+pub(crate) enum Request {
+    /// To pack or unpack standard input.
+    Convert(Conversion),
+    /// To tell how the program is used.
+    Help,
+    /// To tell its version.
+    Version,
+}
+
+/// What the words ask for, if they do: the name of a way and the size of a slot, or one option.
 pub(crate) fn request_of(words: &[String]) -> Option<Request>
-    ensures low { IfSome result (λ request. 2 ≤ request.size) }
-    ensures high { IfSome result (λ request. request.size ≤ slot_limit) }
+    ensures { IfSome result IsLawful }
 {
-    if words.len() != 2 {
-        return None;
+    match words.len() {
+        1 => option_of(words[0].as_str()),
+        2 => conversion_of(words[0].as_str(), words[1].as_str()),
+        _ => None,
     }
-    let way = way_of(words[0].as_str())?;
-    let size = size_of(words[1].as_str())?;
-    Some(Request { way, size })
+}
+
+/// What a single word asks for.
+fn option_of(word: &str) -> Option<Request>
+    ensures { IfSome result IsLawful }
+{
+    match word {
+        "--help" => Some(Request::Help),
+        "--version" => Some(Request::Version),
+        _ => None,
+    }
+}
+
+/// The conversion that the name of a way and the size of a slot ask for.
+fn conversion_of(way: &str, size: &str) -> Option<Request>
+    ensures { IfSome result IsLawful }
+{
+    let way = way_of(way)?;
+    let size = size_of(size)?;
+    Some(Request::Convert(Conversion { way, size }))
 }
 
 /// The way with this name.
 fn way_of(word: &str) -> Option<Way> {
-    if word == "pack" {
-        Some(Way::Pack)
-    } else if word == "unpack" {
-        Some(Way::Unpack)
-    } else {
-        None
+    match word {
+        "pack" => Some(Way::Pack),
+        "unpack" => Some(Way::Unpack),
+        _ => None,
     }
 }
 

@@ -3,8 +3,8 @@
 use osrun_core_jobs::Status;
 use std::io;
 
-/// What `--version` tells.
-const VERSION: &str = "osview 1.0";
+/// What `--version` tells: the version in the file VERSION of the repository.
+const VERSION: &str = "osview 1.0.0";
 
 /// What is told where the words ask for nothing, or for help.
 const HELP: &str = "\
