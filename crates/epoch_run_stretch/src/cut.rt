@@ -36,7 +36,9 @@ impl Cut {
         let begin = self
             .first
             .saturating_add(number.saturating_mul(self.size.max(1)));
-        let end = begin.saturating_add(self.size.max(1)).min(layout.frames() as u32);
+        let end = begin
+            .saturating_add(self.size.max(1))
+            .min(layout.frames() as u32);
         let mut numbers = List::new(alloc);
         let mut from = List::new(alloc);
         for activation in begin..end {
@@ -96,7 +98,12 @@ impl Cut {
     }
 
     /// Adds the batch of an activation, if it is of the stretch and before the one of a number.
-    fn add_batch_of(self, from: &mut List<u32>, activation: u32, number: u32) -> Result<(), Memory> {
+    fn add_batch_of(
+        self,
+        from: &mut List<u32>,
+        activation: u32,
+        number: u32,
+    ) -> Result<(), Memory> {
         if activation < self.first {
             return Ok(());
         }

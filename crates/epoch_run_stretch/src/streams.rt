@@ -70,7 +70,13 @@ fn put_elements(elements: &mut List<Option<Elem>>, from: u64, first: u64, held: 
 }
 
 /// Puts the element at the position `place` after `first` in place.
-fn put_element(elements: &mut List<Option<Elem>>, from: u64, first: u64, place: usize, element: Elem)
+fn put_element(
+    elements: &mut List<Option<Elem>>,
+    from: u64,
+    first: u64,
+    place: usize,
+    element: Elem,
+)
     ensures count { length elements.new ≡ length elements.old }
     ensures meant { (run : Run) (stream : ℕ) → element_meant run stream (first + place) ≡ Some element → AreMeant run stream from elements.old
         → AreMeant run stream from elements.new }

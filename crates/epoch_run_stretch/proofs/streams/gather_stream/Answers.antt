@@ -8,6 +8,6 @@ loop-outcome-preserved c =
     let lt : c.loop-outcome.outcome-index < length c.args.outcomes.now = omega (arith, c.loop-outcome-test.true, c.loop-outcome.auto.outcome-index-end) in
     let at : slice_get c.args.outcomes.now c.loop-outcome.outcome-index ≡ Some c.outcome-item.result = slice_get-get_or c.args.outcomes.now c.loop-outcome.outcome-index c.outcome-item.result lt ∙ ap Some (sym c.outcome-item.is) in
     record {
-  count = c.put_stream.ensures.count ∙ c.loop-outcome.invariant.count;
-  meant = λ run are. c.put_stream.ensures.meant run (are c.loop-outcome.outcome-index c.outcome-item.result at).elements (c.loop-outcome.invariant.meant run are);
-}
+      count = c.put_stream.ensures.count ∙ c.loop-outcome.invariant.count;
+      meant = λ run are. c.put_stream.ensures.meant run (are c.loop-outcome.outcome-index c.outcome-item.result at).elements (c.loop-outcome.invariant.meant run are);
+    }
