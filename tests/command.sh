@@ -1244,7 +1244,7 @@ check "bad words make fewer allocations" 2 "" usage
 : >"$work/out"
 "$oscheck" first.c empty.c none.c >"$work/report" 2>&1
 status=$?
-check "files that are judged" 2 "" "first.c: accepted / empty.c:1: error 23: no function main without parameters: write int main(void) / none.c: can't be read"
+check "files that are judged" 2 "" "first.c: accepted / empty.c:1: error 23: no function main of type int without parameters: write int main(void) / none.c: can't be read"
 # judges NAME STATUS REPORT WORD..: judges files, and compares what is told of them, together with the output.
 judges() {
     : >out
@@ -1315,7 +1315,7 @@ if [ "$most" != 0 ]; then
     judge_without 1 first.c
     check "no memory for the words of a judge" 2 "" "memory ran out"
     judge_without 20 first.c empty.c
-    check "no memory for a file that is judged" 2 "" "first.c: memory ran out / empty.c:1: error 23: no function main without parameters: write int main(void)"
+    check "no memory for a file that is judged" 2 "" "first.c: memory ran out / empty.c:1: error 23: no function main of type int without parameters: write int main(void)"
 fi
 # stops NAME TEXT WANTED: compares the first line that is told of a text that is no program.
 stops() {
@@ -1333,7 +1333,7 @@ stops "an operator without an operand" 'int main(void) {\n    return 1 +;\n}\n' 
 stops "two names side by side" 'int main(void) {\n\tif (a b) ;\n}\n' "2:8: error 4: expected an operator, ')', '(', '[' or '?', found 'b'"
 stops "a pragma of no kind" 'int main(void) {\n#pragma omp tusk\n}\n' "2:13: error 4: found 'tusk': there are no pragmas but omp task, omp tick and omp taskwait"
 stops "a pragma with more behind it" 'int main(void) {\n#pragma omp taskwait 1\n}\n' "2:22: error 4: expected the end of the line, found '1'"
-stops "a pragma that ends early" 'int main(void) {\n#pragma omp tick(s >>\n1)\n}\n' "2:22: error 4: expected an expression, found the end of the line"
+stops "a pragma that ends early" 'int main(void) {\n#pragma omp tick(s >>\n1)\n}\n' "2:22: error 4: found the end of the line: a pragma ends with its line; put a backslash at the end of each line that goes on in the next one"
 # Each text of tests/told with what is told of it: above all what C has and this language hasn't.
 (cd "$top/tests/told" && "$oscheck" ./*.c) >told 2>&1
 status=$?

@@ -11,11 +11,11 @@ use crate::syntax_error::SyntaxError;
 use crate::telling::{Named, show, tell_more, tell_no_memory, tell_place};
 use crate::warning::tell_accepted;
 use front_end::{TEXT_LIMIT, TextError, TextRefusal, read_program};
-use os_ast::{Rule, Violation};
+use os_ast::Violation;
 use os_io::Memory;
-use os_lexer::{Fault, Kind, Token, lex};
+use os_lexer::{Fault, Token, lex};
 use oscheck_places::{Spot, fault_spot};
-use oscheck_sentences::{Word, of_fault, of_rule, word_of};
+use oscheck_sentences::{At, Use, Word, of_fault, of_rule, uses, word_of};
 use std::alloc::Global;
 use std::io;
 
@@ -128,28 +128,47 @@ fn tell_listed(
 ) -> io::Result<Judged>
     requires { length tokens.now ≤ text_limit }
 {
-    match listed(alloc, tokens) {
-        Ok(all) => tell_all(out, alloc, named, tokens, all.as_slice(), extent),
-        Err(Memory) => tell_no_memory(out, named.name),
+    match (listed(alloc, tokens), uses(alloc, tokens)) {
+        (Ok(all), Ok(uses)) => {
+            tell_all(
+                out,
+                alloc,
+                Judging {
+                    named,
+                    tokens,
+                    uses: &uses,
+                },
+                all.as_slice(),
+                extent,
+            )
+        }
+        _ => tell_no_memory(out, named.name),
     }
+}
+
+/// A text that violates rules, with its tokens and where its names stand and what they mean.
+#[derive(Clone, Copy)]
+struct Judging<'a> {
+    named: Named<'a>,
+    tokens: &'a [Token],
+    uses: &'a [Use],
 }
 
 /// Tells the first of some violations, and how many more there are.
 fn tell_all(
     out: &mut impl io::Write,
     alloc: Global,
-    named: Named<'_>,
-    tokens: &[Token],
+    judging: Judging<'_>,
     all: &[Violation],
     extent: Extent,
 ) -> io::Result<Judged> {
     for number in 0..all.len().min(extent.most()) {
-        let judged = tell_violation(out, alloc, named, tokens, all[number])?;
+        let judged = tell_violation(out, alloc, judging, all[number])?;
         if judged != Judged::Refused {
             return Ok(judged);
         }
     }
-    tell_more(out, named.name, extent.more(all.len()), "error")?;
+    tell_more(out, judging.named.name, extent.more(all.len()), "error")?;
     Ok(Judged::Refused)
 }
 
@@ -157,44 +176,22 @@ fn tell_all(
 fn tell_violation(
     out: &mut impl io::Write,
     alloc: Global,
-    named: Named<'_>,
-    tokens: &[Token],
+    judging: Judging<'_>,
     violation: Violation,
 ) -> io::Result<Judged> {
-    match token_of(tokens, violation) {
-        Some(token) => tell_token(out, alloc, named, violation.rule, token),
-        None => tell_line(out, alloc, named, violation.rule, violation.line),
-    }
-}
-
-/// Tells a rule that a token violates.
-fn tell_token(
-    out: &mut impl io::Write,
-    alloc: Global,
-    named: Named<'_>,
-    rule: Rule,
-    token: Token,
-) -> io::Result<Judged> {
-    let spot = Spot::of_token(token);
-    let word = word_of(named.text, token);
-    tell_place(out, named, spot, rule.code())?;
-    of_rule(rule, word, token.kind).write(out, word)?;
-    show(out, alloc, named, spot)
-}
-
-/// Tells a rule that no token violates.
-fn tell_line(
-    out: &mut impl io::Write,
-    alloc: Global,
-    named: Named<'_>,
-    rule: Rule,
-    line: u32,
-) -> io::Result<Judged> {
-    let spot = nowhere(line);
-    let word = Word::Plain("the program");
-    tell_place(out, named, spot, rule.code())?;
-    of_rule(rule, word, Kind::PragmaEnd).write(out, word)?;
-    show(out, alloc, named, spot)
+    let (spot, word) = match token_of(judging.tokens, violation) {
+        Some(token) => (Spot::of_token(token), word_of(judging.named.text, token)),
+        None => (nowhere(violation.line), Word::Plain("the program")),
+    };
+    let at = At {
+        word,
+        tokens: judging.tokens,
+        uses: judging.uses,
+        place: violation.place as usize,
+    };
+    tell_place(out, judging.named, spot, violation.rule.code())?;
+    of_rule(violation.rule, &at).write(out, word)?;
+    show(out, alloc, judging.named, spot)
 }
 
 /// Tells what is wrong with a text, by what it is and its line.

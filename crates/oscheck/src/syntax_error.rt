@@ -115,7 +115,7 @@ fn missing_at(tokens: &[Token], place: usize, found: Word<'_>) -> Option<&'stati
     let front = tokens.get(..place)?;
     match found {
         Word::Spelled(word) => missing(front, token.kind, word),
-        Word::Plain(_) => None,
+        Word::Plain(_) => missing(front, token.kind, ""),
     }
 }
 

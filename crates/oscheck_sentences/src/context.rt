@@ -1,5 +1,6 @@
 //! What stands round a place among tokens.
 
+use os_lexer::names::{FIRSTPRIVATE, INPUT, OUTPUT, TASK};
 use os_lexer::{Key, Kind, Punct, Token};
 
 /// How many blocks are open behind some tokens.
@@ -19,6 +20,21 @@ pub(crate) fn depth(front: &[Token]) -> usize {
 pub(crate) fn last(front: &[Token]) -> Option<Kind> {
     let token = front.last()?;
     Some(token.kind)
+}
+
+/// The token that stands so far from the end of some tokens, the last one at 1.
+pub(crate) fn from_end(front: &[Token], distance: usize) -> Option<Kind> {
+    let place = front.len().checked_sub(distance)?;
+    let token = front.get(place)?;
+    Some(token.kind)
+}
+
+/// Some tokens without the last one.
+fn without_last(front: &[Token]) -> &[Token] {
+    match front.get(..front.len().saturating_sub(1)) {
+        Some(front) => front,
+        None => front,
+    }
 }
 
 /// Whether the last token is of this kind.
@@ -48,8 +64,13 @@ pub(crate) fn is_at_front(front: &[Token]) -> bool {
     }
 }
 
+/// Whether the last token is a name, and nothing of the statement or the item stands before it.
+pub(crate) fn is_first_name(front: &[Token]) -> bool {
+    matches!(last(front), Some(Kind::Name(_))) && is_at_front(without_last(front))
+}
+
 /// The tokens before the innermost parenthesis that is open behind some.
-fn before_paren(front: &[Token]) -> Option<&[Token]> {
+pub(crate) fn before_paren(front: &[Token]) -> Option<&[Token]> {
     let mut closed: usize = 0;
     let mut left = front.len();
     for token in front.iter().rev() {
@@ -96,4 +117,80 @@ pub(crate) fn is_declaration(front: &[Token]) -> bool {
         first(front),
         Some(Kind::Key(Key::Int | Key::Unsigned | Key::Const))
     )
+}
+
+/// Whether a constant of the program stands there so far.
+pub(crate) fn is_constant(front: &[Token]) -> bool {
+    depth(front) == 0 && first(front) == Some(Kind::Key(Key::Const))
+}
+
+/// The tokens of the pragma's line that is open behind some tokens, without its start.
+fn open_line(front: &[Token]) -> Option<&[Token]> {
+    let mut begin = front.len();
+    for token in front.iter().rev() {
+        match token.kind {
+            Kind::PragmaStart => return front.get(begin..),
+            Kind::PragmaEnd => return None,
+            _ => begin = begin.saturating_sub(1),
+        }
+    }
+    None
+}
+
+/// Whether a clause of a task could begin behind some tokens.
+pub(crate) fn is_among_clauses(front: &[Token]) -> bool {
+    match open_line(front) {
+        Some(line) => is_task(line) && !is_in_parens(line),
+        None => false,
+    }
+}
+
+/// Whether the line of a pragma is that of a task.
+fn is_task(line: &[Token]) -> bool {
+    match line.get(1) {
+        Some(token) => token.kind == Kind::Name(TASK),
+        None => false,
+    }
+}
+
+/// Whether a pragma's line ends too early that ends behind some tokens: a bracket is open, or a comma stands last.
+pub(crate) fn is_cut(front: &[Token]) -> bool {
+    match open_line(front) {
+        Some(line) => is_in_parens(line) || ends_with(line, Kind::Punct(Punct::Comma)),
+        None => false,
+    }
+}
+
+/// The tokens before the bracket that the last of some tokens closes.
+fn before_closed(front: &[Token]) -> Option<&[Token]> {
+    if ends_with(front, Kind::Punct(Punct::CloseParen)) {
+        before_paren(without_last(front))
+    } else {
+        None
+    }
+}
+
+/// Whether a clause of a task stands last, at the front of the line behind that of a pragma.
+pub(crate) fn is_clause_behind_line(front: &[Token]) -> bool {
+    match before_closed(front) {
+        Some(before) => matches!(
+            (from_end(before, 1), from_end(before, 2)),
+            (
+                Some(Kind::Name(INPUT | OUTPUT | FIRSTPRIVATE)),
+                Some(Kind::PragmaEnd)
+            )
+        ),
+        None => false,
+    }
+}
+
+/// Whether a name in parentheses stands last, where neither a call nor the head of a statement has them.
+pub(crate) fn is_name_in_parens(front: &[Token]) -> bool {
+    ends_with(front, Kind::Punct(Punct::CloseParen))
+        && matches!(from_end(front, 2), Some(Kind::Name(_)))
+        && from_end(front, 3) == Some(Kind::Punct(Punct::OpenParen))
+        && !matches!(
+            from_end(front, 4),
+            Some(Kind::Name(_) | Kind::Key(Key::If | Key::While | Key::For))
+        )
 }

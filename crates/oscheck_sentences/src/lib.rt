@@ -6,11 +6,21 @@
 //! alone: no grammar stands here, and a sentence is said only of tokens that are refused.
 #![tactic(auto)]
 
+mod at;
 mod c_words;
+mod clause_words;
 mod context;
+mod library;
+mod name_uses;
+mod numbers;
 mod sentences;
 mod word;
+mod words;
+mod wrong_kind;
+mod wrong_size;
 
+pub use at::At;
 pub use c_words::missing;
+pub use name_uses::{Use, uses};
 pub use sentences::{Sentence, of_fault, of_rule};
 pub use word::{Word, word_of, write_choice};

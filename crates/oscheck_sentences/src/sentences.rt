@@ -1,7 +1,14 @@
 //! What each rule and each fault says to who wrote the text: what is wrong, and what to do.
 
+use crate::at::At;
+use crate::library::of_library;
+use crate::name_uses::Meant;
+use crate::numbers::of_digits;
 use crate::word::Word;
+use crate::wrong_kind::of_wrong_kind;
+use crate::wrong_size::of_wrong_size;
 use os_ast::Rule;
+use os_lexer::names::MAIN;
 use os_lexer::{Fault, Kind};
 use std::io;
 
@@ -31,7 +38,7 @@ impl Sentence {
 }
 
 /// A sentence that begins with its word.
-const fn of(after: &'static str) -> Sentence {
+pub(crate) const fn of(after: &'static str) -> Sentence {
     Sentence {
         before: "",
         is_told: true,
@@ -40,7 +47,7 @@ const fn of(after: &'static str) -> Sentence {
 }
 
 /// A sentence that tells no word.
-const fn plain(before: &'static str) -> Sentence {
+pub(crate) const fn plain(before: &'static str) -> Sentence {
     Sentence {
         before,
         is_told: false,
@@ -48,49 +55,42 @@ const fn plain(before: &'static str) -> Sentence {
     }
 }
 
-/// The functions of C's library that are called most, and that aren't here.
-const LIBRARY: [&str; 12] = [
-    "printf", "puts", "putchar", "fprintf", "scanf", "getchar", "fopen", "fread", "fwrite",
-    "malloc", "free", "exit",
-];
-
-/// Whether some words have a word.
-pub(crate) fn has(words: &[&str], word: &str) -> bool {
-    for other in words {
-        if *other == word {
-            return true;
+/// What is said of a name without a declaration.
+fn unknown(at: &At<'_>) -> Sentence {
+    if let Word::Spelled(name) = at.word {
+        if let Some(after) = of_library(name) {
+            return of(after);
         }
     }
-    false
-}
-
-/// What is said of a name without a declaration.
-fn unknown(word: Word<'_>) -> Sentence {
-    match word {
-        Word::Spelled(name) if has(&LIBRARY, name) => of(
-            " isn't here, as nothing of C's library is: a program reads osin and writes osout by its tasks",
+    match at.usage().meant {
+        Meant::Itself if at.kind() == Some(Kind::Name(MAIN)) => of(
+            " is the control program, and nothing calls it: what is to be done again stands in a loop",
+        ),
+        Meant::Itself => of(
+            " calls itself, and there is no recursion: write a loop, with an array for what is still to be done",
+        ),
+        Meant::Later => of(
+            " is a function that stands further down: move it up, before what calls it",
         ),
         _ => of(" isn't declared here: declare it before, in a scope that is still open"),
     }
 }
 
 /// What is said of a misplaced pragma, or of a misplaced stream.
-fn misplaced(kind: Kind) -> Sentence {
+fn misplaced(kind: Option<Kind>) -> Sentence {
     match kind {
-        Kind::PragmaStart => {
+        Some(Kind::PragmaStart) => {
             plain("a pragma outside main or inside a task: move it into main, outside its tasks")
         }
         _ => of(" is a stream that isn't declared in the outermost block of main: move it there"),
     }
 }
 
-/// The sentence for a rule, and the word and the kind of the token that violates it.
-pub fn of_rule(rule: Rule, word: Word<'_>, kind: Kind) -> Sentence {
+/// The sentence for a rule that a token violates.
+pub fn of_rule(rule: Rule, at: &At<'_>) -> Sentence {
     match rule {
-        Rule::Unknown => unknown(word),
-        Rule::WrongKind => of(
-            " is of the wrong kind for this place: an array needs an index, a scalar none, a call a function, an item or tick a stream",
-        ),
+        Rule::Unknown => unknown(at),
+        Rule::WrongKind => of_wrong_kind(at),
         Rule::DeclaredTwice => of(
             " is declared already in this scope: give it another name, or a block of its own",
         ),
@@ -100,13 +100,11 @@ pub fn of_rule(rule: Rule, word: Word<'_>, kind: Kind) -> Sentence {
         Rule::FixedChanged => of(
             " can't be changed, being an input item, a constant, osin_len or a stream: change a variable or an output item",
         ),
-        Rule::WrongSize => of(
-            " has a size that isn't a number or constant from 1 to 65536, or passes the limit of arrays or streams: use a smaller constant",
-        ),
+        Rule::WrongSize => of_wrong_size(at),
         Rule::OutsideLoop => of(
             " stands outside a loop of the same function or task: put it into a loop of its own body",
         ),
-        Rule::Misplaced => misplaced(kind),
+        Rule::Misplaced => misplaced(at.kind()),
         Rule::ReturnInTask => plain("return in a task: assign to an output item"),
         Rule::MisplacedStream => of(
             " is a stream, which has no value: read it by a task with an input item",
@@ -120,7 +118,9 @@ pub fn of_rule(rule: Rule, word: Word<'_>, kind: Kind) -> Sentence {
         Rule::TaskLimit => plain(
             "a task with more than 8 items or more than 64 captured scalars: use a window for several elements",
         ),
-        Rule::NoMain => plain("no function main without parameters: write int main(void)"),
+        Rule::NoMain => plain(
+            "no function main of type int without parameters: write int main(void)",
+        ),
         Rule::MisplacedWindow => of(
             " is a window outside the items of a task: name it in a task whose clauses have it",
         ),
@@ -158,7 +158,7 @@ fn of_bytes(bytes: &[u8]) -> Sentence {
             "there are no directives but #include, which is passed over, and #pragma, each at the front of its line",
         ),
         b'\\' => plain("a backslash stands at the end of a line alone"),
-        b'0'..=b'9' => of(" is no number: take out what is no digit of it"),
+        b'0'..=b'9' => of_digits(bytes),
         _ => of(" begins no token: take it out"),
     }
 }

@@ -1,0 +1,4 @@
+int main(void) {
+    int a;
+    a = (uint8_t)a;
+}

@@ -1,0 +1,5 @@
+const int N = 3;
+int main(void) {
+    #pragma omp task input(osin >> N)
+        ;
+}

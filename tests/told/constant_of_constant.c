@@ -1,0 +1,2 @@
+const int M = 2;
+const int N = M;

@@ -1,0 +1,8 @@
+int g(int a) {
+    return f(a);
+}
+int f(int a) {
+    return a;
+}
+int main(void) {
+}

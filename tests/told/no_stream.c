@@ -1,0 +1,5 @@
+int main(void) {
+    int x, y;
+    #pragma omp task input(x >> y)
+        ;
+}

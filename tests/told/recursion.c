@@ -1,0 +1,5 @@
+int f(int a) {
+    return a ? a * f(a - 1) : 1;
+}
+int main(void) {
+}

@@ -1,0 +1,6 @@
+int f(int n) {
+    int a[0];
+    return 0;
+}
+int main(void) {
+}

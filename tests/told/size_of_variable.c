@@ -1,0 +1,6 @@
+int f(int n) {
+    int a[n];
+    return 0;
+}
+int main(void) {
+}

@@ -1,0 +1,6 @@
+int f(int n) {
+    int a[100000];
+    return 0;
+}
+int main(void) {
+}

@@ -1,0 +1,3 @@
+int main(void) {
+    uint8_t x;
+}

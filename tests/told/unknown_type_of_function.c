@@ -1,0 +1,3 @@
+uint32_t rotate(int a) {
+    return a;
+}

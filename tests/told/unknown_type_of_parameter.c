@@ -1,0 +1,3 @@
+int f(uint8_t a) {
+    return a;
+}

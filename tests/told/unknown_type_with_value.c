@@ -1,0 +1,3 @@
+int main(void) {
+    bool done = 0;
+}
