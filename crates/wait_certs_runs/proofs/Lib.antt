@@ -1,0 +1,5 @@
+pub mod Filling
+pub mod Filled
+pub mod Starving
+pub mod Steps
+pub mod Types
