@@ -181,17 +181,15 @@ static struct end run_main(uint64_t turns)
     return ended;
 }
 
-/* Cells for all elements that are written. */
+/* Cells for all elements that are written. Each program has the streams 0 and 1. */
 static void make_cells(void)
 {
     size_t count = 0;
     for (uint32_t k = 1; k < os_streams; ++k)
         count += streams[k].written;
-    int32_t *cells = zeros(count, sizeof *cells);
-    for (uint32_t k = 1; k < os_streams; ++k) {
-        streams[k].cells = cells;
-        cells += streams[k].written;
-    }
+    streams[1].cells = zeros(count, sizeof(int32_t));
+    for (uint32_t k = 2; k < os_streams; ++k)
+        streams[k].cells = streams[k - 1].cells + streams[k - 1].written;
 }
 
 static uint32_t claim_end(const struct activation *one) { return one->claim + one->site->items; }

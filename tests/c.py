@@ -1,5 +1,5 @@
 #!/usr/bin/env python3
-"""tests/c.py [quick | whole | drawn COUNT [SEED]]: programs that oscc writes as C, beside `osrun run`.
+"""tests/c.py [quick | whole | drawn COUNT [SEED] | bodies COUNT [SEED]]: programs that oscc writes as C, beside `osrun run`.
 
 Each is compiled and run, and its output, report and status are compared with those of `osrun run` over the same input, with the same
 options; those of tests/rows/runs.rows with what stands there.
@@ -8,6 +8,8 @@ options; those of tests/rows/runs.rows with what stands there.
   be read and sinks that break.
 - whole: the same by gcc -O0, -O2, -O3 -march=native and with its sanitizers, and by clang where it is there.
 - drawn: COUNT programs that are drawn from SEED, or from a seed that is told, each over two inputs and with three budgets, by gcc -O1.
+- bodies: COUNT bodies that tests/machine_codes.py draws from SEED, each in an object that `oscc --object` writes as C, by gcc -O2; how each
+  ends and what it writes is compared with what the interpreter there says.
 
 ./build has to have built the programs. tests/c.sh calls it where gcc is there. The last line is `N passed, M failed`."""
 import concurrent.futures
@@ -24,9 +26,13 @@ import tempfile
 sys.dont_write_bytecode = True
 sys.path.insert(0, os.path.dirname(os.path.abspath(__file__)))
 from c_programs import drawn_program  # noqa: E402
+from machine_codes import drawn  # noqa: E402
+from machine_runs import PROGRAM, wanted, with_body  # noqa: E402
+from object import read  # noqa: E402
+from objects import object_of  # noqa: E402
 from rows import TOP, Counts, run_rows  # noqa: E402
 
-OSRUN = f"{TOP}/crates/osrun/out/osrun"
+OSRUN = os.environ.get("OSRUN", f"{TOP}/crates/osrun/out/osrun")
 OSCC = f"{TOP}/crates/oscc/out/oscc"
 RUNTIME = f"{TOP}/runtime"
 SANITIZERS = ["gcc", "-O1", "-g", "-fsanitize=address,undefined", "-fno-sanitize-recover=all"]
@@ -45,9 +51,9 @@ def write(name, content):
 
 
 def compiled(job):
-    """Writes a program as C and compiles it. The answer is what went wrong, or None."""
+    """Writes a program, or the code of an object, as C and compiles it. The answer is what went wrong, or None."""
     name, compiler = job
-    status, text, told = call([OSCC, f"{name}.c"])
+    status, text, told = call([OSCC, *(["--object", f"{name}.o"] if os.path.exists(f"{name}.o") else [f"{name}.c"])])
     if status != 0:
         return told
     write(f"{name}.made.c", text)
@@ -60,12 +66,6 @@ def compile_all(counts, names, compiler):
     with concurrent.futures.ThreadPoolExecutor(os.cpu_count()) as pool:
         for name, wrong in zip(names, pool.map(compiled, [(name, compiler) for name in names])):
             counts.add(f"{name} by {' '.join(compiler)}", wrong, None)
-
-
-def compare(counts, name, program, source, options=()):
-    """A run of the compiled program beside that of the text."""
-    wanted = call([OSRUN, "run", source, *options])
-    counts.add(f"{name} {' '.join(options)}", call([program, *options]), wanted)
 
 
 def inputs():
@@ -139,13 +139,29 @@ def compare_drawn(counts, count, seed):
             break
 
 
+def compare_bodies(counts, count, seed):
+    print(f"seed {seed}")
+    write("program.c", PROGRAM.encode())
+    write("input", bytes([10, 20, 30]))
+    parts = read(call([OSRUN, "compile", "program.c"])[1])
+    runs = [(body, values, budget) for body, many in drawn(count, seed) for values, budget in many]
+    names = [f"body{number}" for number in range(len(runs))]
+    for name, (body, values, _) in zip(names, runs):
+        write(f"{name}.o", object_of(with_body(parts, body, values)))
+    compile_all(counts, names, ["gcc", "-O2"])
+    for name, (body, values, budget) in zip(names, runs):
+        status, out, report = wanted(body, values, budget)
+        counts.add(f"{name} {values} {budget} {body}", call([f"./{name}.made", "input", "--budget", str(budget)]), (status, out, report.encode()))
+
+
 def main(words):
     counts = Counts()
     mode = words[0] if words else "quick"
     with tempfile.TemporaryDirectory() as work:
         os.chdir(work)
-        if mode == "drawn":
-            compare_drawn(counts, int(words[1]), int(words[2]) if len(words) > 2 else random.randrange(10**6))
+        if mode in ("drawn", "bodies"):
+            compare_many = compare_drawn if mode == "drawn" else compare_bodies
+            compare_many(counts, int(words[1]), int(words[2]) if len(words) > 2 else random.randrange(10**6))
         else:
             for compiler in [["gcc", "-O2"]] if mode == "quick" else [it for it in COMPILERS if shutil.which(it[0])]:
                 compare_rows(counts, compiler)

@@ -1,4 +1,4 @@
-use Rattle.std.proofs.Common.{◌≡◌, ◌++◌, List, OnOk, codes, subst, ℕ}
+use Rattle.std.proofs.Common.{◌≡◌, List, OnOk, codes, subst, ℕ}
 use Rattle.oscc_text.specs.Rows.{call_head, operands}
 use Rattle.oscc_text.proofs.Joined.{three}
 use Rattle.oscc_text.proofs.rows.add_call.Goals as goal

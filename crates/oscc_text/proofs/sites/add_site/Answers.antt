@@ -1,4 +1,4 @@
-use Rattle.std.proofs.Common.{◌≡◌, ◌++◌, List, OnOk, codes, subst, ℕ}
+use Rattle.std.proofs.Common.{◌≡◌, List, OnOk, subst, ℕ}
 use Rattle.oscc_text.specs.Sites.{body_text, items_text, captured_text}
 use Rattle.oscc_text.proofs.Joined.{three}
 use Rattle.oscc_text.proofs.sites.add_site.Goals as goal

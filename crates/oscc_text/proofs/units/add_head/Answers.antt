@@ -1,4 +1,4 @@
-use Rattle.std.proofs.Common.{◌≡◌, ◌++◌, List, OnOk, subst, ℕ}
+use Rattle.std.proofs.Common.{◌≡◌, List, OnOk, subst, ℕ}
 use Rattle.oscc_text.specs.Units.{signature, slots, operand_stack, stored_arguments}
 use Rattle.oscc_text.proofs.Joined.{four}
 use Rattle.oscc_text.proofs.units.add_head.Goals as goal

@@ -1,4 +1,4 @@
-use Rattle.std.proofs.Common.{◌≡◌, ◌++◌, List, OnOk, codes, subst, ℕ}
+use Rattle.std.proofs.Common.{◌≡◌, List, OnOk, codes, subst, ℕ}
 use Rattle.oscc_text.specs.Units.{signature_head, parameters}
 use Rattle.oscc_text.proofs.Joined.{three}
 use Rattle.oscc_text.proofs.units.add_signature.Goals as goal
