@@ -85,7 +85,7 @@ def give_files(room, lines):
     with open(f"{room}/JOBS", "w", encoding="utf-8") as jobs:
         jobs.write("run examples/lift.c INPUT\n" * 3)
     first = ["./osrun", "compile", "PROGRAM"], "OBJECT"
-    traced = ["./osrun", "trace", "PROGRAM", "INPUT"], "TRACE"
+    traced = ["./osrun", "trace", "examples/pipeline.c" if "pipeline.c" in text else "PROGRAM", "INPUT"], "TRACE"
     for words, name in (it for it in (first, traced) if it[1] in text):
         with open(f"{room}/{name}", "wb") as file:
             subprocess.run(words, cwd=room, stdout=file, stderr=subprocess.DEVNULL, check=False)
@@ -120,8 +120,6 @@ def run_lines(room, page, lines):
         words = bare
         for form, word in WORDS.items():
             words = re.sub(form, word, words)
-        if re.match(rf"({'|'.join(PROGRAMS)})\b", words):
-            words = f"./{words}"
         if re.match(r"(\./)?(cut|jobs|here|join)\.", words) and folder == room:
             folder = f"{room}/examples/many"
         words = re.sub(r"^(cut|jobs|here|join)\.", r"./\1.", words)
