@@ -1,5 +1,5 @@
 -- A run of lawful activations starves by chains.
-use Rattle.std.proofs.Common.{◌≡◌, ◌∙◌, ◌⊎◌, inl, inr, ℕ, ◌+◌, ◌-◌, ◌<◌, ◌≤◌, Bool, true, false, List, [], Option, Some, None, All, length, get_or, slice_get, refl, sym, ap, subst, arith}
+use Rattle.std.proofs.Common.{◌≡◌, ◌∙◌, ◌⊎◌, inl, inr, ℕ, ◌-◌, ◌<◌, ◌≤◌, true, false, List, [], Option, Some, None, All, length, get_or, refl, sym, ap, subst, arith}
 use Rattle.std.specs.Prelude.{Contains, IfSome, IsSome, is_some, slice_index, slice_index_or, option_and_then}
 use Rattle.std.specs.Option.{option_map_or}
 use Rattle.std.proofs.lemmas.Bool.{cases_lt}
@@ -116,15 +116,19 @@ module _ (starve : MembersStarve) (one : OneWalk) (have : OfStarved HasChain) (a
 
   is_chain_of : (a : ℕ) (members : List ℕ) → Starves activations of a → IsWalk activations input_len ends a members
       → (last : Missing) × (missing activations input_len ends (last_of members) ≡ Some last) × IsChainOf activations input_len of a members last
-  is_chain_of a members here walk = (last, missed, record {
-    begins = walk.begins;
-    is_chain = short;
-    is_walk = walk;
-    only = λ others other. one activations input_len ends a others members other walk;
-    members_starve = all;
-    misses = missed;
-    in_vain = by_producer last.producer refl;
-  })
+  is_chain_of a members here walk = (
+    last,
+    missed,
+    record {
+      begins = walk.begins;
+      is_chain = short;
+      is_walk = walk;
+      only = λ others other. one activations input_len ends a others members other walk;
+      members_starve = all;
+      misses = missed;
+      in_vain = by_producer last.producer refl;
+    },
+  )
     where
       short : IsShortChain activations input_len members
       short = has_short_walks a here members walk

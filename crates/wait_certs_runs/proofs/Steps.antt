@@ -1,5 +1,5 @@
 -- The steps of a run are no more than its budgets allow.
-use Rattle.std.proofs.Common.{◌≡◌, ◌∙◌, ◌≤◌, ◌<◌, ◌+◌, ◌*◌, ℕ, zero, suc, ℤ, List, [], ◌∷◌, All, Option, Some, None, length, slice_get, refl, sym, ap, subst, arith}
+use Rattle.std.proofs.Common.{◌≡◌, ◌∙◌, ◌≤◌, ◌+◌, ◌*◌, ℕ, zero, suc, ℤ, List, [], ◌∷◌, All, Option, Some, None, length, slice_get, refl, sym, ap, subst, arith}
 use Rattle.std.specs.Prelude.{sum}
 use Rattle.std.proofs.Math.Nat.{suc-mul}
 use Rattle.std.proofs.lemmas.List.Elements.{All-get_or}
@@ -20,7 +20,7 @@ use Rattle.os_code.specs.Machine.{most_steps}
 use Rattle.os_code.specs.Outcomes.{code_outcome, main_control}
 use Rattle.os_code.specs.Tasks.{Fits, TaskEnds}
 use Rattle.os_code.specs.declared.parts.Parts.{Parts}
-use Rattle.wait_certs_runs.specs.Steps.{AreSteps, MainTakesFewSteps, RanOver, RunsTakeFewSteps, TakesFewSteps}
+use Rattle.wait_certs_runs.specs.Steps.{MainTakesFewSteps, RanOver, RunsTakeFewSteps}
 
 pub of_main : MainEnds → MainEndsAreOne → MainTakesFewSteps
 of_main ends one code input_len budget steps made valid is =
@@ -66,17 +66,19 @@ module _ (ends : TasksEnd) (code : Parts) (valid : IsValid code) (activations : 
     where
       over_it : (es : List Elem) → read_by a ≡ Some es → least_root es ≡ None → (x : Activation) → slice_get activations a ≡ Some x → (n : ℕ) × IsStepsAt a n
       over_it es read none x at =
-          let t = ends code x (values_of es) task_budget valid (fits_at a x at) in
-          (t.steps, record {
-            ran = λ y inputs there over.
-                let same_x : x ≡ y = same_Some x y (sym at ∙ there) in
-                let same_read : es ≡ over.read = same_Some es over.read (sym read ∙ over.is_there) in
-                let same_inputs : values_of es ≡ inputs = ap values_of same_read ∙ sym over.values in
-                subst (λ (z : Activation). TaskEnds code z inputs task_budget (code_outcome code z inputs task_budget) t.steps) same_x
-                (subst (λ vs. TaskEnds code x vs task_budget (code_outcome code x vs task_budget) t.steps) same_inputs t.ends);
-            never_ran = λ not. absurd (not (values_of es) (record { read = es; is_there = read; no_poison = none; values = refl }));
-            few = t.few;
-          })
+          let t = ends code x (values_of es) task_budget valid (fits_at a x at) in (
+            t.steps,
+            record {
+              ran = λ y inputs there over.
+                  let same_x : x ≡ y = same_Some x y (sym at ∙ there) in
+                  let same_read : es ≡ over.read = same_Some es over.read (sym read ∙ over.is_there) in
+                  let same_inputs : values_of es ≡ inputs = ap values_of same_read ∙ sym over.values in
+                  subst (λ (z : Activation). TaskEnds code z inputs task_budget (code_outcome code z inputs task_budget) t.steps) same_x
+                  (subst (λ vs. TaskEnds code x vs task_budget (code_outcome code x vs task_budget) t.steps) same_inputs t.ends);
+              never_ran = λ not. absurd (not (values_of es) (record { read = es; is_there = read; no_poison = none; values = refl }));
+              few = t.few;
+            },
+          )
 
       by_activation : (o : Option Activation) → slice_get activations a ≡ o → (es : List Elem) → read_by a ≡ Some es → least_root es ≡ None → (n : ℕ) × IsStepsAt a n
       by_activation None at es read none = (0, none_at a (λ x inputs there over. let never : None ≡ Some x = sym at ∙ there in cc))
@@ -84,10 +86,12 @@ module _ (ends : TasksEnd) (code : Parts) (valid : IsValid code) (activations : 
 
       by_root : (root : Option ℕ) (es : List Elem) → least_root es ≡ root → read_by a ≡ Some es → (n : ℕ) × IsStepsAt a n
       by_root None es none read = by_activation (slice_get activations a) refl es read none
-      by_root (Some r) es some read =
-          (0, none_at a (λ x inputs there over.
-          let same_read : es ≡ over.read = same_Some es over.read (sym read ∙ over.is_there) in
-          let never : Some r ≡ None = sym some ∙ ap least_root same_read ∙ over.no_poison in cc))
+      by_root (Some r) es some read = (
+        0,
+        none_at a (λ x inputs there over.
+            let same_read : es ≡ over.read = same_Some es over.read (sym read ∙ over.is_there) in
+            let never : Some r ≡ None = sym some ∙ ap least_root same_read ∙ over.no_poison in cc),
+      )
 
       by_read : (o : Option (List Elem)) → read_by a ≡ o → (n : ℕ) × IsStepsAt a n
       by_read None read = (0, none_at a (λ x inputs there over. let never : None ≡ Some over.read = sym read ∙ over.is_there in cc))

@@ -1,5 +1,5 @@
 -- The tasks of a run begin with `int`s.
-use Rattle.std.proofs.Common.{◌≡◌, ◌∙◌, ◌<◌, ◌≤◌, ◌+◌, ℕ, zero, suc, ℤ, List, [], ◌∷◌, ◌++◌, All, Option, Some, None, length, take, drop, slice_get, refl, sym, ap, subst, arith}
+use Rattle.std.proofs.Common.{◌≡◌, ◌≤◌, ℕ, zero, suc, ℤ, List, [], ◌∷◌, ◌++◌, All, Option, Some, None, length, slice_get, refl, sym, subst}
 use Rattle.std.specs.Option.{option_map_or}
 use Rattle.std.proofs.lemmas.List.{drop_at, take_at}
 use Rattle.std.proofs.lemmas.List.Elements.{All-drop, All-get_or, All-take, All-weaker}
@@ -14,7 +14,6 @@ use Rattle.flow_core_laws.specs.Poisoning.{values_of}
 use Rattle.flow_core_laws.specs.Window.{claims_of}
 use Rattle.flow_core_laws.specs.declared.activation.Activation.{Activation}
 use Rattle.flow_core_laws.specs.declared.claim.Claim.{Claim}
-use Rattle.flow_core_laws.specs.declared.outcome.Outcome.{Outcome}
 use Rattle.lowering_laws.specs.Laws.{CreatesLawful, OfAccepted}
 use Rattle.os_ast.specs.Violations.{streams}
 use Rattle.stream_match_layouts.specs.Lawful.{IsLawfulClaim}
