@@ -7,3 +7,4 @@ pub mod Unread
 pub mod WrongBursts
 pub mod WrongSizes
 pub mod OpenEnds
+pub mod EmptyBodies
