@@ -3,11 +3,12 @@
 //! window traps, that a function can end without `return`, that a body is empty, or that a number is octal.
 //!
 //! Each warning has a definition and is given exactly where that holds: no warning is a guess. Five are defined over the tokens of the
-//! program, in `specs/Warnings.antt`, `specs/Streams.antt`, `specs/EmptyBodies.antt` and `specs/Octal.antt`. An accepted program
-//! declares each name that it uses, but for `osin`, `osout` and `osin_len`, so that a name which stands once is declared and not used. It declares streams in the outermost block of `main` alone,
-//! each name once there, and only such a name may begin an item: so tasks read or write a stream exactly where its name begins an item of
-//! theirs. Four are defined over the tree and what its names mean: changes that nothing reads in `specs/DeadStores.antt`, bursts that
-//! trap in `specs/Bursts.antt`, sizes that trap in `specs/WindowSizes.antt`, and functions in `specs/OpenEnds.antt`.
+//! program, in `specs/Warnings.antt`, `specs/Streams.antt`, `specs/EmptyBodies.antt` and `specs/Octal.antt`. An accepted program declares
+//! each name that it uses, but for `osin`, `osout` and `osin_len`, so that a name which stands once is declared and not used. It declares
+//! streams in the outermost block of `main` alone, each name once there, and only such a name may begin an item: so tasks read or write a
+//! stream exactly where its name begins an item of theirs. Four are defined over the tree and what its names mean: changes that nothing
+//! reads in `specs/DeadStores.antt`, bursts that trap in `specs/Bursts.antt`, sizes that trap in `specs/WindowSizes.antt`, and functions
+//! in `specs/OpenEnds.antt`.
 #![tactic(auto)]
 
 mod access;
