@@ -9,20 +9,22 @@ ghost use Rattle.oscheck_warnings.specs.Bursts.{AreWrongBursts};
 ghost use Rattle.oscheck_warnings.specs.DeadStores.{AreDeadStores};
 ghost use Rattle.oscheck_warnings.specs.Extents.{extents};
 ghost use Rattle.oscheck_warnings.specs.Meanings.{meaning_at};
+ghost use Rattle.oscheck_warnings.specs.OpenEnds.{AreOpenEnds};
 ghost use Rattle.oscheck_warnings.specs.Streams.{AreInClauses};
 ghost use Rattle.oscheck_warnings.specs.Warnings.{AreRepeated};
+ghost use Rattle.oscheck_warnings.specs.WindowSizes.{AreWrongSizes};
 
 use crate::judged::Judged;
 use crate::manner::{Extent, Manner, Strictness};
 use crate::telling::{Named, show, tell_more, tell_no_memory};
 use os_io::Memory;
 use os_lexer::names::{INPUT, OUTPUT};
-use os_lexer::{LexError, Token, lex};
+use os_lexer::{Kind, LexError, Token, lex};
 use oscheck_places::{Spot, column};
 use oscheck_sentences::{Word, word_of};
 use oscheck_warnings::{
-    Places, dead_stores, is_bare_task, is_left_out, is_lone_name, names_in_clauses, repeated_names,
-    wrong_bursts,
+    Places, dead_stores, is_bare_task, is_empty_body, is_left_out, is_lone_name, is_octal,
+    names_in_clauses, open_ended, repeated_names, wrong_bursts, wrong_sizes,
 };
 use std::alloc::Global;
 use std::io;
@@ -41,6 +43,14 @@ enum Warning {
     DeadStore,
     /// It is a window in an output item whose burst is a constant other than its size.
     WrongBurst,
+    /// It declares a window whose size is a constant that no window has.
+    WrongSize,
+    /// It is a function that can end without `return`.
+    OpenEnd,
+    /// It is `if`, `while` or `for`, and the body is `;` directly behind its parentheses.
+    EmptyBody,
+    /// It is a number whose digits are octal, with this value.
+    Octal(u32),
 }
 
 /// What tasks don't do with a stream.
@@ -78,6 +88,10 @@ struct Uses {
     dead: Places,
     /// The places of the windows in output items whose bursts trap.
     wrong: Places,
+    /// The places of the windows whose sizes trap.
+    sizes: Places,
+    /// The places of the functions that can end without `return`.
+    open_ended: Places,
 }
 
 /// What the names of a program are used for.
@@ -89,6 +103,9 @@ fn uses_of(alloc: Global, tokens: &[Token], checked: &Checked) -> Result<Uses, M
     ensures dead { IfOk result (λ uses. AreDeadStores (accesses (program_tree checked.now.program)) (meaning_at checked.now.names) uses.dead) }
     ensures wrong { IfOk result (λ uses. AreWrongBursts (extents (meaning_at checked.now.names) (program_tree checked.now.program))
         (meaning_at checked.now.names) uses.wrong) }
+    ensures sizes { IfOk result (λ uses. AreWrongSizes (extents (meaning_at checked.now.names) (program_tree checked.now.program))
+        (meaning_at checked.now.names) uses.sizes) }
+    ensures open_ends { IfOk result (λ uses. AreOpenEnds (program_tree checked.now.program) uses.open_ended) }
 {
     Ok(Uses {
         repeated: repeated_names(alloc, tokens)?,
@@ -96,6 +113,8 @@ fn uses_of(alloc: Global, tokens: &[Token], checked: &Checked) -> Result<Uses, M
         written: names_in_clauses(alloc, tokens, OUTPUT)?,
         dead: dead_stores(alloc, &checked.program, checked.names.as_slice())?,
         wrong: wrong_bursts(alloc, &checked.program, checked.names.as_slice())?,
+        sizes: wrong_sizes(alloc, &checked.program, checked.names.as_slice())?,
+        open_ended: open_ended(alloc, &checked.program)?,
     })
 }
 
@@ -118,7 +137,7 @@ fn lack_at(tokens: &[Token], uses: &Uses, place: usize) -> Option<Lack>
 }
 
 /// What there is to warn of at a place.
-fn warning_at(tokens: &[Token], uses: &Uses, place: usize) -> Option<Warning>
+fn warning_at(text: &[u8], tokens: &[Token], uses: &Uses, place: usize) -> Option<Warning>
     requires within { place < length tokens.now }
     requires few { length tokens.now ≤ text_limit }
     requires repeated { AreRepeated tokens.now uses.now.repeated.items }
@@ -135,8 +154,24 @@ fn warning_at(tokens: &[Token], uses: &Uses, place: usize) -> Option<Warning>
         Some(Warning::DeadStore)
     } else if uses.wrong.has(place as u32) {
         Some(Warning::WrongBurst)
+    } else if uses.sizes.has(place as u32) {
+        Some(Warning::WrongSize)
+    } else if uses.open_ended.has(place as u32) {
+        Some(Warning::OpenEnd)
+    } else if is_empty_body(tokens, place) {
+        Some(Warning::EmptyBody)
     } else {
-        None
+        octal_at(text, tokens[place])
+    }
+}
+
+/// What there is to warn of a number whose digits are octal.
+fn octal_at(text: &[u8], token: Token) -> Option<Warning> {
+    match token.kind {
+        Kind::Number(value) | Kind::Wide(value) if is_octal(text, token) => {
+            Some(Warning::Octal(value))
+        }
+        _ => None,
     }
 }
 
@@ -159,6 +194,10 @@ fn tell_warning(
         Warning::Stream(lack) => tell_stream(out, lack, word_of(named.text, token))?,
         Warning::DeadStore => tell_dead_store(out, word_of(named.text, token))?,
         Warning::WrongBurst => tell_wrong_burst(out, word_of(named.text, token))?,
+        Warning::WrongSize => tell_wrong_size(out, word_of(named.text, token))?,
+        Warning::OpenEnd => tell_open_end(out, word_of(named.text, token))?,
+        Warning::EmptyBody => tell_empty_body(out, word_of(named.text, token))?,
+        Warning::Octal(value) => tell_octal(out, word_of(named.text, token), value)?,
     }
     show(out, alloc, named, spot)?;
     Ok(())
@@ -199,6 +238,44 @@ fn tell_wrong_burst(out: &mut impl io::Write, window: Word<'_>) -> io::Result<()
     )
 }
 
+/// Tells that the size of a window traps.
+fn tell_wrong_size(out: &mut impl io::Write, window: Word<'_>) -> io::Result<()> {
+    write!(out, "the size of the window ")?;
+    window.write(out)?;
+    write!(
+        out,
+        " isn't from 1 to 65536, so that main traps where it is declared (code 6): give another size"
+    )
+}
+
+/// Tells that a function can end without `return`.
+fn tell_open_end(out: &mut impl io::Write, function: Word<'_>) -> io::Result<()> {
+    function.write(out)?;
+    write!(
+        out,
+        " can end without return, and its value is 0 then: end it by return"
+    )
+}
+
+/// Tells that the body of an `if` or of a loop is empty.
+fn tell_empty_body(out: &mut impl io::Write, word: Word<'_>) -> io::Result<()> {
+    write!(out, "the body of this ")?;
+    word.write(out)?;
+    write!(
+        out,
+        " is the ; behind its parentheses: take the ; out, or put a blank before it where nothing is to be done"
+    )
+}
+
+/// Tells that a number is octal, and its value.
+fn tell_octal(out: &mut impl io::Write, number: Word<'_>, value: u32) -> io::Result<()> {
+    number.write(out)?;
+    write!(
+        out,
+        " begins with 0, so that it is octal, and means {value}: leave the 0 out where its digits are decimal"
+    )
+}
+
 /// Tells the place of a warning, which its sentence goes on from.
 fn tell_warned(out: &mut impl io::Write, named: Named<'_>, spot: Spot) -> io::Result<()> {
     let Named { name, text } = named;
@@ -226,7 +303,7 @@ fn tell_warnings(
 {
     let mut count: usize = 0;
     for place in 0..tokens.len() {
-        if let Some(warning) = warning_at(tokens, uses, place) {
+        if let Some(warning) = warning_at(named.text, tokens, uses, place) {
             if count < extent.most() {
                 tell_warning(out, alloc, named, tokens[place], warning)?;
             }

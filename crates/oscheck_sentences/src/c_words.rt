@@ -3,7 +3,7 @@
 use crate::clause_words::of_clause;
 use crate::context::{
     before_paren, depth, ends_with, from_end, is_among_clauses, is_at_front, is_clause_behind_line,
-    is_constant, is_cut, is_declaration, is_first_name, is_in_head, is_in_parens,
+    is_constant, is_cut, is_declaration, is_first_name, is_in_brackets, is_in_head, is_in_parens,
     is_name_in_parens, last,
 };
 use crate::words::{Row, find, has};
@@ -191,6 +191,9 @@ fn of_assigning(front: &[Token]) -> Option<&'static str> {
 
 /// What is said of a comma.
 fn of_comma(front: &[Token]) -> Option<&'static str> {
+    if is_in_brackets(front) {
+        return Some(DIMENSIONS);
+    }
     if is_in_head(front) {
         return Some(
             "a part of a for's head is one change; put the others before the loop or into its body",
@@ -259,6 +262,11 @@ fn of_mark(front: &[Token], mark: Punct) -> Option<&'static str> {
         }
         Punct::Colon if is_first_name(front) => {
             Some("there are no labels, as there is no goto; write a loop, with break or continue")
+        }
+        Punct::ShiftLeft | Punct::ShiftRight if is_first_name(front) => {
+            Some(
+                "a stream is read and written by the items of a task alone; write #pragma omp task with input or output",
+            )
         }
         Punct::ShiftLeft if is_in_clause(front, INPUT) => {
             Some("an input item is written STREAM >> NAME; turn the arrow round")

@@ -3,7 +3,7 @@
 use crate::words::{Row, find};
 
 /// What is said of words that stand where a clause begins.
-static ROWS: [Row; 6] = [
+static ROWS: [Row; 7] = [
     Row {
         words: &["in"],
         after: "a clause that reads is written input(STREAM >> NAME)",
@@ -13,7 +13,11 @@ static ROWS: [Row; 6] = [
         after: "a clause that writes is written output(STREAM << NAME)",
     },
     Row {
-        words: &["inout", "depend"],
+        words: &["inout"],
+        after: "there is no clause for both; write input(STREAM >> NAME) and output(STREAM << NAME)",
+    },
+    Row {
+        words: &["depend"],
         after: "a task waits for what it reads; write input(STREAM >> NAME) here, and output(STREAM << NAME) at the task that writes it",
     },
     Row {

@@ -86,6 +86,25 @@ pub(crate) fn before_paren(front: &[Token]) -> Option<&[Token]> {
     None
 }
 
+/// Whether the innermost open bracket is that of an index or of a size.
+pub(crate) fn is_in_brackets(front: &[Token]) -> bool {
+    let mut closed: usize = 0;
+    for token in front.iter().rev() {
+        match token.kind {
+            Kind::Punct(Punct::CloseParen | Punct::CloseBracket) => {
+                closed = closed.saturating_add(1);
+            }
+            Kind::Punct(mark @ (Punct::OpenParen | Punct::OpenBracket)) if closed == 0 => {
+                return mark == Punct::OpenBracket;
+            }
+            Kind::Punct(Punct::OpenParen | Punct::OpenBracket) => closed = closed.saturating_sub(1),
+            Kind::Punct(Punct::Semicolon | Punct::OpenBrace | Punct::CloseBrace) => return false,
+            _ => {}
+        }
+    }
+    false
+}
+
 /// Whether a parenthesis is open.
 pub(crate) fn is_in_parens(front: &[Token]) -> bool {
     before_paren(front).is_some()

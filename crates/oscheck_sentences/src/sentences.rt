@@ -9,7 +9,7 @@ use crate::wrong_kind::of_wrong_kind;
 use crate::wrong_size::of_wrong_size;
 use os_ast::Rule;
 use os_lexer::names::MAIN;
-use os_lexer::{Fault, Kind};
+use os_lexer::{Fault, Kind, Punct};
 use std::io;
 
 /// A sentence about a word, which stands between its two parts.
@@ -65,6 +65,9 @@ fn unknown(at: &At<'_>) -> Sentence {
     match at.usage().meant {
         Meant::Itself if at.kind() == Some(Kind::Name(MAIN)) => of(
             " is the control program, and nothing calls it: what is to be done again stands in a loop",
+        ),
+        Meant::Itself if at.kind_behind(1) != Some(Kind::Punct(Punct::OpenParen)) => of(
+            " is the name of this function, and no variable: what it gives stands behind return",
         ),
         Meant::Itself => of(
             " calls itself, and there is no recursion: write a loop, with an array for what is still to be done",
@@ -157,7 +160,7 @@ fn of_bytes(bytes: &[u8]) -> Sentence {
         b'#' => plain(
             "there are no directives but #include, which is passed over, and #pragma, each at the front of its line",
         ),
-        b'\\' => plain("a backslash stands at the end of a line alone"),
+        b'\\' => plain("a backslash stands at the end of a line alone, with no blank behind it"),
         b'0'..=b'9' => of_digits(bytes),
         _ => of(" begins no token: take it out"),
     }

@@ -5,3 +5,6 @@ pub mod SoFar
 pub mod Marked
 pub mod Unread
 pub mod WrongBursts
+pub mod WrongSizes
+pub mod OpenEnds
+pub mod EmptyBodies

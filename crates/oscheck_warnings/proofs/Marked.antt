@@ -44,7 +44,7 @@ itself : (a : ℕ) → (a == a) ≡ true
 itself a = grind (arith, nat_tests)
 
 -- one more
-one_more : {A : Type 0} (list : List A) (place_of : A → ℕ) (test : A → ℕ → Bool) (old new : Places) (count : ℕ) (a : A) →
+pub one_more : {A : Type 0} (list : List A) (place_of : A → ℕ) (test : A → ℕ → Bool) (old new : Places) (count : ℕ) (a : A) →
     AreMarked list place_of test old count → count < length list → a ≡ get_or list count a →
     ((place : ℕ) → has new place ≡ ((test a count && (place_of a == place)) || has old place)) →
     AreMarked list place_of test new (count + 1)

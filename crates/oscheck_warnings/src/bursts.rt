@@ -74,7 +74,7 @@ fn window_of(what: Option<What>) -> Option<u32>
 }
 
 /// The window whose size a constant is.
-fn size_slot(meanings: &Meanings, extent: Extent) -> Option<u32>
+pub(crate) fn size_slot(meanings: &Meanings, extent: Extent) -> Option<u32>
     ensures { result ≡ size_slot (what_at meanings.now) extent }
 {
     match extent.bracket {

@@ -1,0 +1,6 @@
+int main(void) {
+    int x;
+    #pragma omp task input(osin >> x) \ 
+        output(osout << x)
+    ;
+}

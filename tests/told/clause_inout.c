@@ -1,0 +1,5 @@
+int main(void) {
+    int x;
+    #pragma omp task inout(osin >> x)
+        ;
+}

@@ -1,0 +1,4 @@
+int f(int i) {
+    int t[16];
+    return t[i, 1];
+}
