@@ -1,7 +1,8 @@
 //! The program `oscc`: writes a program of the language as C.
 //!
 //! `oscc FILE` reads the text of FILE and writes to standard output the C that `oscc_text` makes of its code, which a C compiler makes a
-//! program of, with the runtime in `runtime/`; `oscc --object FILE` takes the code of an object. Where that can't be done nothing is written there, and one line on standard error says why.
+//! program of, with the runtime in `runtime/`; `oscc --object FILE` takes the code of an object. Where that can't be done nothing is written
+//! there, and one line on standard error says why.
 #![tactic(auto)]
 
 mod loading;

@@ -4,7 +4,8 @@ ghost use Rattle.std.specs.Prelude.{◌≡◌, ◌<◌, ◌≤◌, ◌-◌, ◌+
 ghost use Rattle.os_code.specs.Codes.{parts_of};
 ghost use Rattle.os_code.specs.Parts.{unit_at};
 ghost use Rattle.oscc_text.specs.Rows.{args_of, binary_row, burst_in_row, burst_out_row, call_head, call_row, check_row, item_check_row};
-ghost use Rattle.oscc_text.specs.Rows.{item_load_row, item_store_row, is_target, label_if, label_text, labelled, load_row, push_row, row, row_at, rows, spawn_row};
+ghost use Rattle.oscc_text.specs.Rows.{is_target, item_load_row, item_store_row, label_if, label_text, labelled, load_row, push_row};
+ghost use Rattle.oscc_text.specs.Rows.{row, row_at, rows, spawn_row};
 ghost use Rattle.oscc_text.specs.Rows.{store_row, tick_row, unary_row, window_row, zero_row};
 ghost use Rattle.oscc_text.specs.Targets.{AreTargets};
 
