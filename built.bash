@@ -1,6 +1,6 @@
 # What ./build leaves beside a program, and ./install and ./release read: crates/NAME/out/NAME.built, with four lines: the commit, the kit, the sum
 # of what the program is made of and that of the program. They are SHA-256 sums. It is read by these scripts, which set `top`, the top of the repository.
-programs=(ospack oscheck osrun osview)
+programs=(ospack oscc oscheck osrun osview)
 
 # crates_of NAME: the crates that a crate is made of, lowest first, with the crate itself: their lines in crates.txt name them.
 crates_of() {
@@ -71,7 +71,7 @@ origin() {
     echo "commit ${1:0:8}$changes, $2"
 }
 
-# put PREFIX ORIGIN: puts the programs, what starts them, their man pages, completions and the header for editors under a prefix.
+# put PREFIX ORIGIN: puts the programs, what starts them, their man pages, completions, the header for editors and the runtime of C under a prefix.
 put() {
     local program
     for program in "${programs[@]}"; do
@@ -81,6 +81,7 @@ put() {
         install -D -m 644 "$top/docs/completions/$program" "$1/share/bash-completion/completions/$program"
     done
     install -D -m 644 "$top/examples/osin.h" "$1/share/osrun/osin.h"
+    install -D -m 644 -t "$1/share/osrun" "$top/runtime/osrt.c" "$top/runtime/osrt.h"
     echo "$2" >"$1/libexec/osrun/built"
     synopsis >"$1/libexec/osrun/synopsis"
     chmod 644 "$1/libexec/osrun/built" "$1/libexec/osrun/synopsis"

@@ -1,6 +1,6 @@
 #!/bin/sh
 # Runs the proved program that has this file's name, out of libexec/osrun beside bin: ./install and ./release put this file there as
-# bin/osrun, bin/oscheck, bin/osview and bin/ospack. A file that may grow no further fails the write then, and doesn't end the program,
+# bin/osrun, bin/oscheck, bin/osview, bin/oscc and bin/ospack. A file that may grow no further fails the write then, and doesn't end the program,
 # which has no call that says so itself.
 trap '' XFSZ
 here=$0
@@ -13,6 +13,12 @@ if [ "${1-}" = --version ] && [ "$name" != osrun ]; then
     told=$("$programs/$name" "$@") || exit
     read -r built <"$programs/built"
     printf '%s, %s\n' "$told" "$built" 2>/dev/null || exit 6
+    exit 0
+fi
+if [ "$name" = oscc ] && [ "$*" = --runtime ]; then
+    # The program can't know where it lies.
+    share=$(cd "${here%/*}/../share/osrun" && pwd) || exit
+    printf -- '-I%s %s/osrt.c\n' "$share" "$share" 2>/dev/null || exit 6
     exit 0
 fi
 # osrun tells nothing but `usage` of refused words: on a terminal the synopsis follows.

@@ -30,11 +30,12 @@ from machine_codes import drawn  # noqa: E402
 from machine_runs import PROGRAM, wanted, with_body  # noqa: E402
 from object import read  # noqa: E402
 from objects import object_of  # noqa: E402
+from programs import BIN, program  # noqa: E402
 from rows import TOP, Counts, run_rows  # noqa: E402
 
-OSRUN = os.environ.get("OSRUN", f"{TOP}/crates/osrun/out/osrun")
-OSCC = f"{TOP}/crates/oscc/out/oscc"
-RUNTIME = f"{TOP}/runtime"
+OSRUN = program("osrun")
+OSCC = program("oscc")
+RUNTIME = f"{BIN}/../share/osrun" if BIN else f"{TOP}/runtime"
 SANITIZERS = ["gcc", "-O1", "-g", "-fsanitize=address,undefined", "-fno-sanitize-recover=all"]
 COMPILERS = [["gcc", "-O0"], ["gcc", "-O2"], ["gcc", "-O3", "-march=native"], SANITIZERS, ["clang", "-O2"]]
 

@@ -5,4 +5,6 @@ if ! command -v gcc >/dev/null; then
     echo 'gcc is not on this machine: programs written as C are not compared'
     exit 0
 fi
-exec "$(dirname "${BASH_SOURCE[0]}")/c.py" "$@"
+top=$(cd "$(dirname "${BASH_SOURCE[0]}")/.." && pwd)
+. "$top/tests/programs.bash"
+exec "$top/tests/c.py" "$@"

@@ -1797,7 +1797,7 @@ unbuilt() {
 # Each program that has --version tells that of the file VERSION, as the man pages and the changelog do; what people call tells commit and kit too, the same for all.
 version=$(cat "$top/VERSION")
 built='commit ([0-9a-f]{8}|none)( with changes)?, rattle-kit-[^ ]+ logic [0-9a-f]+'
-for name in oscheck osview ospack; do
+for name in oscheck osview oscc ospack; do
     program=${name}_program
     "${!program}" --version >out 2>report
     status=$?

@@ -2,8 +2,8 @@
 
 use std::io;
 
-/// What `--version` tells.
-const VERSION: &str = "oscc 1.0";
+/// What `--version` tells: the version in the file VERSION of the repository.
+const VERSION: &str = "oscc 1.0.0";
 
 /// What is told where help is asked for.
 const HELP: &str = "\
