@@ -1623,7 +1623,7 @@ for words in "" report "report first.c" "report first.c in.bin in.bin" "stream f
     "report --workers=65 first.c in.bin" "report --control 1 --control 1 first.c in.bin" "report first.c in.bin --budget" \
     "report --turns 1 first.c in.bin" "report --budget= first.c in.bin" "report -w first.c" "--help report" "graph first.c" \
     "graph first.c in.bin osin" "graph first.c in.bin --activations 1" "graph first.c in.bin --activations 1..x" \
-    "report first.c in.bin --activations 1..2" "stream first.c in.bin osin --activations 1..2"; do
+    "report first.c in.bin --activations 1..2" "stream first.c in.bin osin --activations 1..2" "steps first.c in.bin --activations 1..2"; do
     # shellcheck disable=SC2086
     shows "words that ask for nothing to be shown: $words" 2 "$(sed -e ':a' -e '$!{N;ba' -e '}' -e 's|\n| / |g' help)" $words
 done

@@ -68,7 +68,7 @@ fn steps_of<'w>(words: &ParsedWords<'w>) -> Option<Request<'w>>
     requires { AreWithin words.now.options }
     ensures { IfSome result IsLawful }
 {
-    if words.count != 2 {
+    if words.count != 2 || words.options.activations.is_some() {
         return None;
     }
     Some(Request::Steps(job_of(words)))
