@@ -8,7 +8,5 @@ mod Held
 mod NextReads
 mod NextWrites
 mod Next
-mod NextApart
-mod Joined
 mod Last
 mod GivenUp

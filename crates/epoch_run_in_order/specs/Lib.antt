@@ -5,4 +5,3 @@ pub mod Reading
 pub mod Writing
 pub mod Standing
 pub mod Behind
-pub mod Joining

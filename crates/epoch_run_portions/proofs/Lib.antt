@@ -1,3 +1,0 @@
-pub mod Passing
-mod OneByOne
-mod Portions
