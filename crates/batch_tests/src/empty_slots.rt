@@ -112,6 +112,7 @@ fn half<J: Meaning>(
     };
     let bodies = Local { bodies: &lasts };
     let workload = Workload {
+        first: 0,
         layout,
         bodies: &bodies,
     };

@@ -25,9 +25,13 @@ pub record HasOutcome (run : Run) (number : ℕ) (end : TaskEnd) (outputs : List
   pub end_is : end ≡ outcome.end
   pub outputs_are : end ≡ Done → outputs ≡ outcome.outputs
 
--- a layout and bodies are those of a run
-pub record IsWorkload (run : Run) (layout : Layout) (outcome : ℕ → List ℤ → Outcome) (takes : ℕ → ℕ → ℕ → Type 0) : Type 0 where
+-- what bodies take of an activation that is among those from a number on; of an earlier one nothing is asked
+abbrev pub takes_from : (first : ℕ) → (takes : ℕ → ℕ → ℕ → Type 0) → (number inputs outputs : ℕ) → Type 0
+takes_from first takes number inputs outputs = first ≤ number → takes number inputs outputs
+
+-- a layout is that of a run, and bodies are those of its activations from a number on
+pub record IsWorkload (run : Run) (first : ℕ) (layout : Layout) (outcome : ℕ → List ℤ → Outcome) (takes : ℕ → ℕ → ℕ → Type 0) : Type 0 where
   pub is_layout : IsLayout layout
   pub is_of : IsLayoutOf layout run.activations
   pub runs : outcome ≡ run.body
-  pub serves : ServesAll run.activations run.body takes
+  pub serves : ServesAll run.activations run.body (takes_from first takes)

@@ -1,14 +1,14 @@
 //! Running an activation of a batch.
 
 ghost use Rattle.std.specs.Prelude.{◌≡◌, ◌≤◌, ◌<◌, ◌^◌, IfOk, IfSome, OnOk, None, Some, length, sum_by};
-ghost use Rattle.flow_core_epochs.specs.Epoch.{ServesAll};
 ghost use Rattle.flow_core_laws.specs.declared.task_end.TaskEnd.TheVariants.{Done};
 ghost use Rattle.stream_match_layouts.specs.Spans.{write_count};
 ghost use Rattle.stream_match_layouts.specs.declared.span.Span.{Span};
 ghost use Rattle.epoch_run_batches.specs.Meant.{HoldMeant, end_meant};
 ghost use Rattle.epoch_run_batches.specs.Reads.{AreRead, covered_by};
-ghost use Rattle.epoch_run_batches.specs.Workload.{AreSpansOf, HasOutcome};
+ghost use Rattle.epoch_run_batches.specs.Workload.{AreSpansOf, HasOutcome, IsWorkload};
 
+use crate::batch::Workload;
 use crate::inputs::Inputs;
 use crate::local_bodies::LocalBodies;
 use crate::slot::Meaning;
@@ -38,8 +38,8 @@ impl Buffers {
 
 /// Runs an activation, if all that it reads is there, and writes what it came to. After `Memory` the streams are to be given up.
 pub(crate) fn run_one<J: Meaning, B: LocalBodies>(
+    workload: &Workload<'_, B>,
     sources: &Sources<'_, J>,
-    bodies: &B,
     number: u32,
     spans: &[Span],
     from: &[u32],
@@ -47,23 +47,23 @@ pub(crate) fn run_one<J: Meaning, B: LocalBodies>(
     buffers: &mut Buffers,
     scratch: &mut B::Scratch,
 ) -> Result<Option<TaskEnd>, Memory>
-    requires run { B.outcome bodies.now ≡ J.run.body }
-    requires served { ServesAll J.run.activations J.run.body (B.takes bodies.now) }
+    requires workload { IsWorkload J.run workload.now.first workload.now.layout.now (B.outcome workload.now.bodies.now) (B.takes workload.now.bodies.now) }
+    requires at_hand { workload.now.first ≤ number }
     requires spans { AreSpansOf J.run number spans.now }
     requires as_many { length own.old.firsts ≡ length own.old.elements }
     requires meant { HoldMeant J.run own.old }
-    requires fitting { B.fits bodies.now scratch.old }
+    requires fitting { B.fits workload.now.bodies.now scratch.old }
     ensures as_many { OnOk result (length own.new.firsts ≡ length own.new.elements) }
     ensures meant { OnOk result (HoldMeant J.run own.new) }
     ensures end { IfOk result (λ o. IfSome o (λ end. end_meant J.run number ≡ Some end)) }
-    ensures fitting { B.fits bodies.now scratch.new }
+    ensures fitting { B.fits workload.now.bodies.now scratch.new }
 {
     let there = sources.read_all(own, from, spans, &mut buffers.inputs)?;
     if !there {
         return Ok(None);
     }
     let end = end_of::<J, B>(
-        bodies,
+        workload,
         number,
         spans,
         &buffers.inputs,
@@ -77,28 +77,28 @@ pub(crate) fn run_one<J: Meaning, B: LocalBodies>(
 
 /// How an activation ends whose inputs were read: poisoned, where one of them is poison, and else as its body does.
 fn end_of<J: Meaning, B: LocalBodies>(
-    bodies: &B,
+    workload: &Workload<'_, B>,
     number: u32,
     spans: &[Span],
     inputs: &Inputs,
     outputs: &mut Vec<i32>,
     scratch: &mut B::Scratch,
 ) -> Result<TaskEnd, Memory>
-    requires run { B.outcome bodies.now ≡ J.run.body }
-    requires served { ServesAll J.run.activations J.run.body (B.takes bodies.now) }
+    requires workload { IsWorkload J.run workload.now.first workload.now.layout.now (B.outcome workload.now.bodies.now) (B.takes workload.now.bodies.now) }
+    requires at_hand { workload.now.first ≤ number }
     requires spans { AreSpansOf J.run number spans.now }
     requires read { AreRead (covered_by J.run spans.now) inputs.now }
-    requires fitting { B.fits bodies.now scratch.old }
+    requires fitting { B.fits workload.now.bodies.now scratch.old }
     ensures come { IfOk result (λ end. HasOutcome J.run number end outputs.new.items) }
     ensures room { IfOk result (λ end. end ≡ Done → length outputs.new.items ≡ sum_by write_count spans.now) }
-    ensures fitting { B.fits bodies.now scratch.new }
+    ensures fitting { B.fits workload.now.bodies.now scratch.new }
 {
     if let Some(root) = inputs.root {
         return Ok(TaskEnd::Poisoned { root });
     }
     let count = written_count(spans);
     fit(outputs, count)?;
-    let end = bodies.run(
+    let end = workload.bodies.run(
         number,
         inputs.values.as_slice(),
         outputs.as_mut_slice(),

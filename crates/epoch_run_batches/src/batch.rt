@@ -20,13 +20,16 @@ use stream_match_layouts::{Layout, Span};
 
 /// What batches are made of: the positions of all activations, and their bodies.
 #[derive(Clone, Copy)]
-pub struct Workload<'r, B: LocalBodies> {
+pub struct Workload<'r, B> {
+    /// The number of the first activation whose body is at hand: those before it have ended, and aren't run.
+    pub first: u32,
     pub layout: &'r Layout,
     pub bodies: &'r B,
 }
 
 /// Runs the activations of a batch one after the other. Each reads what earlier ones of the batch wrote and what the sources have; of the slots
-/// it looks in those of the batches `from`. An activation that doesn't find all that it reads is left out, as is a number that no activation has.
+/// it looks in those of the batches `from`. An activation that doesn't find all that it reads is left out, as is a number that no activation has,
+/// or one whose body isn't at hand.
 pub fn run_batch<J: Meaning, B: LocalBodies>(
     alloc: Global,
     workload: &Workload<'_, B>,
@@ -36,7 +39,7 @@ pub fn run_batch<J: Meaning, B: LocalBodies>(
     buffers: &mut Buffers,
     scratch: &mut B::Scratch,
 ) -> Result<BatchOutcome, Memory>
-    requires workload { IsWorkload J.run workload.now.layout.now (B.outcome workload.now.bodies.now) (B.takes workload.now.bodies.now) }
+    requires workload { IsWorkload J.run workload.now.first workload.now.layout.now (B.outcome workload.now.bodies.now) (B.takes workload.now.bodies.now) }
     requires fitting { B.fits workload.now.bodies.now scratch.old }
     ensures meant { IfOk result (IsMeant J.run) }
     ensures fitting { B.fits workload.now.bodies.now scratch.new }
@@ -64,7 +67,7 @@ fn run_numbers<J: Meaning, B: LocalBodies>(
     requires as_many { length own.old.firsts ≡ length own.old.elements }
     requires meant { HoldMeant J.run own.old }
     requires ends { AreEndsMeant J.run ended.old }
-    requires workload { IsWorkload J.run workload.now.layout.now (B.outcome workload.now.bodies.now) (B.takes workload.now.bodies.now) }
+    requires workload { IsWorkload J.run workload.now.first workload.now.layout.now (B.outcome workload.now.bodies.now) (B.takes workload.now.bodies.now) }
     requires fitting { B.fits workload.now.bodies.now scratch.old }
     ensures as_many { OnOk result (length own.new.firsts ≡ length own.new.elements) }
     ensures meant { OnOk result (HoldMeant J.run own.new) }
@@ -79,7 +82,7 @@ fn run_numbers<J: Meaning, B: LocalBodies>(
     Ok(())
 }
 
-/// Runs an activation, if there is one of this number and it finds what it reads.
+/// Runs an activation, if there is one of this number, its body is at hand, and it finds what it reads.
 fn run_number<J: Meaning, B: LocalBodies>(
     workload: &Workload<'_, B>,
     sources: &Sources<'_, J>,
@@ -93,20 +96,23 @@ fn run_number<J: Meaning, B: LocalBodies>(
     requires as_many { length own.old.firsts ≡ length own.old.elements }
     requires meant { HoldMeant J.run own.old }
     requires ends { AreEndsMeant J.run ended.old }
-    requires workload { IsWorkload J.run workload.now.layout.now (B.outcome workload.now.bodies.now) (B.takes workload.now.bodies.now) }
+    requires workload { IsWorkload J.run workload.now.first workload.now.layout.now (B.outcome workload.now.bodies.now) (B.takes workload.now.bodies.now) }
     requires fitting { B.fits workload.now.bodies.now scratch.old }
     ensures as_many { OnOk result (length own.new.firsts ≡ length own.new.elements) }
     ensures meant { OnOk result (HoldMeant J.run own.new) }
     ensures ends { OnOk result (AreEndsMeant J.run ended.new) }
     ensures fitting { B.fits workload.now.bodies.now scratch.new }
 {
+    if number < workload.first {
+        return Ok(());
+    }
     if number as usize >= workload.layout.frames() {
         return Ok(());
     }
     let spans = workload.layout.spans_of(number as usize);
     let end = run_one(
+        workload,
         sources,
-        workload.bodies,
         number,
         spans,
         from,

@@ -12,9 +12,9 @@ abbrev pub run_of : List Activation → List ℕ → (ℕ → List ℤ → Outco
 run_of activations input body = record { activations = activations; input = input; body = body }
 
 -- batches of a run may be run: layout, bodies and input are its, and all that the streams held before is meant
-pub record MayRun (run : Run) (layout : Layout) (outcome : ℕ → List ℤ → Outcome) (takes : ℕ → ℕ → ℕ → Type 0) (input : List ℕ)
+pub record MayRun (run : Run) (first : ℕ) (layout : Layout) (outcome : ℕ → List ℤ → Outcome) (takes : ℕ → ℕ → ℕ → Type 0) (input : List ℕ)
     (before : Streams) : Type 0 where
-  pub workload : IsWorkload run layout outcome takes
+  pub workload : IsWorkload run first layout outcome takes
   pub input_is : input ≡ run.input
   pub as_many : length before.firsts ≡ length before.elements
   pub before_is_meant : HoldMeant run before

@@ -20,6 +20,8 @@ use stream_match_layouts::Layout;
 pub(crate) struct BatchBodies<'r, J: Meaning, B: Bodies> {
     pub alloc: Global,
     pub plan: &'r Plan,
+    /// The number of the first activation whose body is at hand.
+    pub first: u32,
     pub layout: &'r Layout,
     pub bodies: &'r B,
     pub input: &'r [u8],
@@ -47,7 +49,7 @@ impl<'r, J: Meaning + Send + Sync, B: Bodies> Bodies for BatchBodies<'r, J, B> {
     ghost outcome = { λ s. token_outcome s.plan.now };
 
     ghost takes = { λ s frame inputs outputs. (outputs ≡ (frame_at s.plan.now frame).outputs)
-        × MayRun J.run s.layout.now (B.outcome s.bodies.now) (B.takes s.bodies.now) s.input.now s.before.now };
+        × MayRun J.run s.first s.layout.now (B.outcome s.bodies.now) (B.takes s.bodies.now) s.input.now s.before.now };
 
     ghost fits = { λ s scratch. B.fits s.bodies.now scratch.scratch };
 
@@ -70,6 +72,7 @@ impl<'r, J: Meaning + Send + Sync, B: Bodies> Bodies for BatchBodies<'r, J, B> {
             bodies: self.bodies,
         };
         let workload = Workload {
+            first: self.first,
             layout: self.layout,
             bodies: &bodies,
         };
@@ -101,7 +104,7 @@ fn run_into_slot<J: Meaning, B: LocalBodies>(
     buffers: &mut Buffers,
     scratch: &mut B::Scratch,
 )
-    requires workload { IsWorkload J.run workload.now.layout.now (B.outcome workload.now.bodies.now) (B.takes workload.now.bodies.now) }
+    requires workload { IsWorkload J.run workload.now.first workload.now.layout.now (B.outcome workload.now.bodies.now) (B.takes workload.now.bodies.now) }
     requires fitting { B.fits workload.now.bodies.now scratch.old }
     ensures { B.fits workload.now.bodies.now scratch.new }
 {

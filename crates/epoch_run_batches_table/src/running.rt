@@ -12,7 +12,7 @@ ghost use Rattle.epoch_run_batches_table.specs.Running.{run_of};
 use crate::batch::Batch;
 use crate::bodies::BatchBodies;
 use crate::tokens::plan_of;
-use epoch_run_batches::{BatchOutcome, Meaning, SlotContent, Streams};
+use epoch_run_batches::{BatchOutcome, Meaning, SlotContent, Streams, Workload};
 use flow_core_laws::{Activation, Bodies};
 use os_io::{List, Memory};
 use std::alloc::Global;
@@ -83,24 +83,28 @@ fn run_given<J: Meaning + Send + Sync, R: Threads + Sync, B: Bodies, G: Gate>(
     ensures { IfOk result (AreAllMeant J.run) }
 {
     let _ = activations;
+    let workload = Workload {
+        first: 0,
+        layout,
+        bodies,
+    };
     run_batches_of::<J, R, B, G>(
-        rt, alloc, layout, bodies, input, before, batches, workers, gate,
+        rt, alloc, &workload, input, before, batches, workers, gate,
     )
 }
 
-/// Runs batches of activations of the run that is picked, as `run_batches` does.
+/// Runs batches of activations of the run that is picked, as `run_batches` does. Activations whose bodies aren't at hand are left out.
 pub fn run_batches_of<J: Meaning + Send + Sync, R: Threads + Sync, B: Bodies, G: Gate>(
     rt: &R,
     alloc: Global,
-    layout: &Layout,
-    bodies: &B,
+    workload: &Workload<'_, B>,
     input: &[u8],
     before: &Streams,
     batches: &[Batch],
     workers: u32,
     gate: &G,
 ) -> Result<List<BatchOutcome>, Memory>
-    requires workload { IsWorkload J.run layout.now (B.outcome bodies.now) (B.takes bodies.now) }
+    requires workload { IsWorkload J.run workload.now.first workload.now.layout.now (B.outcome workload.now.bodies.now) (B.takes workload.now.bodies.now) }
     requires input { input.now ≡ J.run.input }
     requires as_many { length before.now.firsts ≡ length before.now.elements }
     requires before { HoldMeant J.run before.now }
@@ -115,8 +119,9 @@ pub fn run_batches_of<J: Meaning + Send + Sync, R: Threads + Sync, B: Bodies, G:
     let bodies = BatchBodies {
         alloc,
         plan: &plan,
-        layout,
-        bodies,
+        first: workload.first,
+        layout: workload.layout,
+        bodies: workload.bodies,
         input,
         before,
         batches,

@@ -8,7 +8,7 @@ pub run_one-requires-clause-spans : goal.run_one-requires-clause-spans
 run_one-requires-clause-spans g c =
     let workload = c.args.workload.now in
     subst (AreSpansOf g.J.Meaning.run c.args.number) (sym c.spans_of-spans.ensures)
-    (are_spans g.J.Meaning.run workload.layout.now c.args.number (g.B.LocalBodies.outcome workload.bodies.now) (g.B.LocalBodies.takes workload.bodies.now) c.requires.workload (omega (arith, c.if-number-frames.false, c.frames.ensures)))
+    (are_spans g.J.Meaning.run workload.first workload.layout.now c.args.number (g.B.LocalBodies.outcome workload.bodies.now) (g.B.LocalBodies.takes workload.bodies.now) c.requires.workload (omega (arith, c.if-number-frames.false, c.frames.ensures)))
 
 pub returns-in_ok-push-clause-ends : goal.returns-in_ok-push-clause-ends
 returns-in_ok-push-clause-ends g c =
