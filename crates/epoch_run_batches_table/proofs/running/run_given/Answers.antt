@@ -5,7 +5,7 @@ use Rattle.epoch_run_batches_table.specs.Running.{run_of}
 use Rattle.epoch_run_batches_table.proofs.running.run_given.Goals as goal
 
 pub run_batches_of-requires-clause-workload : goal.run_batches_of-requires-clause-workload
-run_batches_of-requires-clause-workload g c =
+run_batches_of-requires-clause-workload g c κs within =
     let activations = c.args.activations.now in
     let layout = c.args.layout.now in
     let outcome = g.B.Bodies.outcome c.args.bodies.now in
