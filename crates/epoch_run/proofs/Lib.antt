@@ -6,7 +6,7 @@ pub mod InOrder
 pub mod Moving
 pub mod Over
 pub mod Step
-pub mod Batches
+pub mod InBatches
 pub mod Stretches
 pub mod LaidBehind
 pub mod Listing

@@ -193,20 +193,37 @@ fn run_in_batches<R: Threads + Sync, G: Gate>(
         → length (created_so_far standing.old.control) < length (created_so_far standing.new.control)) }
 {
     let mut next = List::new(alloc);
-    let Beside { all, next: laid } = run_stretch(
+    let beside = run_stretch(
         rt, standing, order, alloc, code, input, budgets, workers, gate, &mut next,
     )?;
-    if all {
-        give_up_ran(standing, order, alloc)?;
-    }
+    settle(standing, order, alloc, beside.all)?;
     add(
         alloc,
         &mut standing.activations,
         &mut standing.layout,
         next,
-        laid,
+        beside.next,
     )?;
-    Ok(all)
+    Ok(beside.all)
+}
+
+/// Gives up after a stretch what nobody needs any more, where all of it ran.
+fn settle(
+    standing: &mut Standing<'_>,
+    order: &mut InOrder,
+    alloc: Global,
+    all: bool,
+) -> Result<(), Memory>
+    requires { length order.old.ends ≤ activations_limit }
+    ensures ran { OnOk result ((code : Code) (input : List ℕ) (budgets : Budgets) (given : List Activation) → (all ≡ true → length order.old.ends ≡ length given)
+        → HasRunTo code input budgets given standing.old order.old → HasRunTo code input budgets given standing.new order.new) }
+    ensures first { OnOk result ((all ≡ false → standing.old.first ≡ length order.old.ends) → standing.new.first ≡ length order.new.ends) }
+    ensures same { OnOk result (standing.new ≡ record standing.old { activations = standing.new.activations; first = standing.new.first }) }
+{
+    if all {
+        give_up_ran(standing, order, alloc)?;
+    }
+    Ok(())
 }
 
 /// Gives up the activations of the list, where all that are laid out have run, and what nobody reads any more of what the streams hold.

@@ -1,5 +1,5 @@
 -- Going on in batches: before a stretch, after it, and from one to the next.
-use Rattle.std.proofs.Common.{◌≡◌, ℕ, ℤ, ◌+◌, ◌<◌, ◌≤◌, List, [], ◌++◌, Bool, true, false, All, drop, length, take, refl, sym, ap, ◌∙◌, subst, arith}
+use Rattle.std.proofs.Common.{◌≡◌, ℕ, ℤ, ◌+◌, ◌-◌, ◌*◌, ◌<◌, ◌≤◌, List, [], ◌++◌, Bool, Option, cond, true, false, drop, length, take, refl, sym, ap, ◌∙◌, subst, arith}
 use Rattle.std.specs.Prelude.{nat_lt}
 use Rattle.std.proofs.lemmas.Bool.{ltb-false}
 use Rattle.std.proofs.lemmas.List.{drop_all, drop-append-le, length-append, length-take, take-append-drop, take-append-le, take_all, take_min}
@@ -14,7 +14,9 @@ use Rattle.flow_core_laws.specs.Outcome.{State, ends_of}
 use Rattle.flow_core_laws.specs.Streams.{stream_meaning}
 use Rattle.flow_core_laws.specs.declared.activation.Activation.{Activation}
 use Rattle.flow_core_laws.specs.declared.control.Control.{Control}
+use Rattle.flow_core_laws.specs.declared.elem.Elem.{Elem}
 use Rattle.flow_core_laws.specs.declared.outcome.Outcome.{Outcome}
+use Rattle.flow_core_laws.specs.declared.task_end.TaskEnd.{TaskEnd}
 use Rattle.os_code.specs.Codes.{parts_of}
 use Rattle.os_code.specs.Outcomes.{main_control}
 use Rattle.os_code.specs.declared.code.Code.{Code}
@@ -195,3 +197,41 @@ grown_by at_most before after list next advance =
       let s = advance.some in
       omega (arith, l, ge, n, s),
     )
+
+-- what is held after a stretch, whether all of it ran or nothing
+pub held_after : (activations : List Activation) (input : List ℕ) (meant : ℕ → List ℤ → Outcome) (before ends : List (Option TaskEnd)) (elements : List (List (Option Elem))) (firsts : List ℕ) (frames : ℕ)
+    → length activations ≡ frames → (ran : Bool) → (ran ≡ true → length ends ≡ frames) → (ran ≡ true → HoldAll activations input meant ends elements firsts)
+    → (ran ≡ false → ends ≡ before) → (ran ≡ false → HoldAll (take (length before) activations) input meant ends elements firsts)
+    → HoldAll (take (length ends) activations) input meant ends elements firsts
+held_after activations input meant before ends elements firsts frames many true count whole same held =
+    let c = count refl in
+    subst (λ (xs : List Activation). HoldAll xs input meant ends elements firsts) (sym (take_all (length ends) activations (omega (arith, c, many)))) (whole refl)
+held_after activations input meant before ends elements firsts frames many false count whole same held =
+    subst (λ (es : List (Option TaskEnd)). HoldAll (take (length es) activations) input meant ends elements firsts) (sym (same refl)) (held refl)
+
+-- how much is left of a run: the activations that may come, and whether more do
+abbrev pub measure : RunSoFar → ℕ
+measure so_far = 2 * (65536 - length (created_so_far so_far)) + cond so_far.has_ended 0 1
+
+pub measure_falls : (before after : RunSoFar) → before.has_ended ≡ false → length (created_so_far before) ≤ length (created_so_far after)
+    → (after.has_ended ≡ false → length (created_so_far before) < length (created_so_far after)) → length (created_so_far after) ≤ 65536
+    → measure after < measure before
+measure_falls before after on no_fewer grows few = by after.has_ended refl
+  where
+    n : ℕ
+    n = length (created_so_far before)
+
+    m : ℕ
+    m = length (created_so_far after)
+
+    was : measure before ≡ 2 * (65536 - n) + 1
+    was = ap (λ b. 2 * (65536 - n) + cond b 0 1) on
+
+    by : (b : Bool) → after.has_ended ≡ b → measure after < measure before
+    by true is =
+        let now : measure after ≡ 2 * (65536 - m) + 0 = ap (λ b. 2 * (65536 - m) + cond b 0 1) is in
+        omega (arith, was, now, no_fewer)
+    by false is =
+        let now : measure after ≡ 2 * (65536 - m) + 1 = ap (λ b. 2 * (65536 - m) + cond b 0 1) is in
+        let more = grows is in
+        omega (arith, was, now, more, few)
