@@ -1,19 +1,17 @@
-//! How an error is told: its line, its column and its sentence, and below them the line of the text with a mark.
+//! How reports are told.
 
-ghost use Rattle.std.specs.Prelude.{◌≤◌, length};
+ghost use Rattle.std.specs.Prelude.{◌≡◌, IfOk};
+ghost use Rattle.oscheck.specs.Forms.{form};
 
+use crate::format::Format;
 use crate::judged::Judged;
+use crate::options::VERSION;
+use crate::reports::judged_of;
 use os_io::Memory;
-use oscheck_places::{Spot, column, excerpt};
+use oscheck_reports::{Report, gcc_form, sarif_form, text_form};
 use std::alloc::Global;
 use std::io;
-
-/// A text with the name that it is told by.
-#[derive(Clone, Copy)]
-pub(crate) struct Named<'a> {
-    pub(crate) name: &'a str,
-    pub(crate) text: &'a [u8],
-}
+use std::slice;
 
 /// Tells that memory could not be had for judging a file.
 pub(crate) fn tell_no_memory(out: &mut impl io::Write, name: &str) -> io::Result<Judged> {
@@ -21,52 +19,33 @@ pub(crate) fn tell_no_memory(out: &mut impl io::Write, name: &str) -> io::Result
     Ok(Judged::Unjudged)
 }
 
-/// Tells the place and the code of an error, which its sentence goes on from.
-pub(crate) fn tell_place(
-    out: &mut impl io::Write,
-    named: Named<'_>,
-    spot: Spot,
-    code: u8,
-) -> io::Result<()> {
-    let Named { name, text } = named;
-    let line = spot.line;
-    if spot.start > text.len() {
-        return write!(out, "{name}:{line}: error {code}: ");
-    }
-    let column = column(text, spot.start);
-    write!(out, "{name}:{line}:{column}: error {code}: ")
-}
-
-/// Tells how many more errors or warnings there are, where there are some.
-pub(crate) fn tell_more(
-    out: &mut impl io::Write,
-    name: &str,
-    more: usize,
-    what: &str,
-) -> io::Result<()> {
-    match more {
-        0 => Ok(()),
-        1 => writeln!(out, "{name}: 1 more {what}"),
-        _ => writeln!(out, "{name}: {more} more {what}s"),
+/// What is written of a report.
+pub(crate) fn written(alloc: Global, format: Format, report: &Report) -> Result<Vec<u8>, Memory>
+    ensures { IfOk result (λ text. text.items ≡ form format report.now) }
+{
+    match format {
+        Format::Text => text_form(alloc, report),
+        Format::Gcc => gcc_form(alloc, report),
+        Format::Sarif => sarif_form(alloc, VERSION, slice::from_ref(report)),
     }
 }
 
-/// Ends the sentence of an error, and shows its line.
-pub(crate) fn show(
+/// Tells of a file what was found in it, where memory could be had for that.
+pub(crate) fn tell(
     out: &mut impl io::Write,
     alloc: Global,
-    named: Named<'_>,
-    spot: Spot,
+    format: Format,
+    name: &str,
+    report: Result<Report, Memory>,
 ) -> io::Result<Judged> {
-    writeln!(out)?;
-    if spot.start > named.text.len() {
-        return Ok(Judged::Refused);
-    }
-    match excerpt(alloc, named.text, spot) {
-        Ok(lines) => {
-            out.write_all(&lines)?;
-            Ok(Judged::Refused)
+    let Ok(report) = report else {
+        return tell_no_memory(out, name);
+    };
+    match written(alloc, format, &report) {
+        Ok(text) => {
+            out.write_all(&text)?;
+            Ok(judged_of(&report))
         }
-        Err(Memory) => tell_no_memory(out, named.name),
+        Err(Memory) => tell_no_memory(out, name),
     }
 }

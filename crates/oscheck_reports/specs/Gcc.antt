@@ -21,5 +21,5 @@ abbrev pub told_note : List ℕ → Note → List ℕ
 told_note name n = if is_accepted n then codes "" else note_line name n
 
 -- the findings in their order, and behind them the notes
-unfoldable pub gcc_form : Report → List ℕ
+abbrev pub gcc_form : Report → List ℕ
 gcc_form r = flat_map (finding_line (string_bytes r.name)) r.findings.items ++ flat_map (told_note (string_bytes r.name)) r.notes.items

@@ -5,3 +5,4 @@ pub mod Places
 pub mod Plain
 pub mod Gcc
 pub mod Sarif
+pub mod Forms

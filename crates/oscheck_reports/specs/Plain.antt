@@ -33,5 +33,5 @@ abbrev pub note_line : List ℕ → Note → List ℕ
 note_line name n = name ++ codes ": " ++ note_text n ++ codes "\n"
 
 -- the findings in their order, and behind them the notes
-unfoldable pub text_form : Report → List ℕ
+abbrev pub text_form : Report → List ℕ
 text_form r = flat_map (finding_text (string_bytes r.name)) r.findings.items ++ flat_map (note_line (string_bytes r.name)) r.notes.items

@@ -1,6 +1,6 @@
 //! What is written of a file as gcc would.
 
-ghost use Rattle.std.specs.Prelude.{◌≡◌, ◌++◌, IfOk, OnOk, codes};
+ghost use Rattle.std.specs.Prelude.{◌≡◌, ◌++◌, OnOk, codes};
 ghost use Rattle.std.specs.Fmt.{decimal};
 ghost use Rattle.std.specs.List.{flat_map};
 ghost use Rattle.oscheck_reports.specs.Checks.{severity_of};
@@ -71,13 +71,11 @@ fn add_notes(alloc: Global, told: &mut Text, name: &[u8], notes: &[Note]) -> Res
     Ok(())
 }
 
-/// A report as lines that editors read as those of gcc.
-pub fn gcc_form(alloc: Global, report: &Report) -> Result<Vec<u8>, Memory>
-    ensures { IfOk result (λ text. text.items ≡ gcc_form report.now) }
+/// Adds a report: a line for each finding, and the notes.
+pub(crate) fn add_gcc(alloc: Global, told: &mut Text, report: &Report) -> Result<(), Memory>
+    ensures { OnOk result (told.new ≡ told.old ++ gcc_form report.now) }
 {
     let name = report.name.as_bytes();
-    let mut told = Text::new(alloc);
-    add_findings(&mut told, name, &report.findings)?;
-    add_notes(alloc, &mut told, name, &report.notes)?;
-    Ok(told.into_bytes())
+    add_findings(told, name, &report.findings)?;
+    add_notes(alloc, told, name, &report.notes)
 }

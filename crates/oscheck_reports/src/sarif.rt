@@ -158,7 +158,11 @@ fn log(alloc: Global, version: &str, reports: &[Report]) -> Result<Value, AllocE
 }
 
 /// The reports of several files as one text of SARIF 2.1.0, with a line feed at its end. The version is that of the program.
-pub fn sarif_form(alloc: Global, version: &str, reports: &[Report]) -> Result<Vec<u8>, Memory>
+pub(crate) fn sarif_form(
+    alloc: Global,
+    version: &str,
+    reports: &[Report],
+) -> Result<Vec<u8>, Memory>
     ensures { IfOk result (λ text. text.items ≡ sarif_form version.now reports.now) }
 {
     let value = log(alloc, version, reports)?;
