@@ -4,11 +4,15 @@ ghost use Rattle.std.specs.Prelude.{◌≤◌, length};
 ghost use Rattle.os_lexer.specs.Limits.{text_limit};
 
 use crate::completion::completion;
+use crate::errors::fault_found;
 use crate::judged::Judged;
-use crate::judging::tell_fault;
-use crate::telling::{Named, tell_no_memory};
+use crate::judging::Named;
+use crate::reports::of_one;
+use crate::telling::{tell, tell_no_memory};
 use front_end::{TEXT_LIMIT, TextError, TextRefusal, read_program};
 use os_io::Memory;
+use os_lexer::Fault;
+use oscheck_reports::{Format, Report};
 use std::alloc::Global;
 use std::io;
 
@@ -42,6 +46,36 @@ fn tell_no_completion(told: &mut impl io::Write, name: &str) -> io::Result<Judge
 fn write_text(out: &mut impl io::Write, text: &[u8]) -> io::Result<Judged> {
     out.write_all(text)?;
     Ok(Judged::Accepted)
+}
+
+/// A report on the first fault of the bytes of a text.
+fn report_on_fault(
+    alloc: Global,
+    named: Named<'_>,
+    fault: Fault,
+    line: u32,
+) -> Result<Report, Memory>
+    requires { length named.text.now ≤ text_limit }
+{
+    of_one(
+        alloc,
+        named.name,
+        fault_found(alloc, named.text, fault, line)?,
+    )
+}
+
+/// Tells the first fault of the bytes of a text.
+fn tell_fault(
+    told: &mut impl io::Write,
+    alloc: Global,
+    named: Named<'_>,
+    fault: Fault,
+    line: u32,
+) -> io::Result<Judged>
+    requires { length named.text.now ≤ text_limit }
+{
+    let report = report_on_fault(alloc, named, fault, line);
+    tell(told, alloc, Format::Text, named.name, report)
 }
 
 /// Writes a program that begins as a text does, or tells why there is none: the text itself where its tokens mean one.

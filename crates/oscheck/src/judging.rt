@@ -1,8 +1,7 @@
 //! What is found in a text.
 
-ghost use Rattle.std.specs.Prelude.{◌≤◌, length, IfOk};
+ghost use Rattle.std.specs.Prelude.{◌≤◌, length};
 ghost use Rattle.os_lexer.specs.Limits.{text_limit};
-ghost use Rattle.oscheck.specs.Findings.{IsReportOn};
 
 use crate::errors::{Judging, fault_found, stop_found, violations_found};
 use crate::listing::listed;
@@ -90,11 +89,7 @@ fn refused_report(
 }
 
 /// A report on a text: what is wrong with it, or that it is accepted and what it is warned of.
-pub(crate) fn report_on(
-    alloc: Global,
-    named: Named<'_>,
-    manner: Manner,
-) -> Result<Report, Memory>
+pub(crate) fn report_on(alloc: Global, named: Named<'_>, manner: Manner) -> Result<Report, Memory>
     requires { length named.text.now ≤ text_limit }
 {
     match read_program(alloc, named.text) {

@@ -3,9 +3,9 @@
 ghost use Rattle.std.specs.Prelude.{◌≡◌, ◌∷◌, [], IfOk, string_bytes};
 ghost use Rattle.oscheck.specs.Findings.{more_notes};
 
+use crate::found::found_of;
 use crate::judged::Judged;
 use crate::loading::NoText;
-use crate::found::found_of;
 use front_end::TEXT_LIMIT;
 use os_io::Memory;
 use oscheck_reports::{Check, Finding, Note, Place, Report, Severity};
@@ -22,7 +22,11 @@ pub(crate) fn only(alloc: Global, note: Note) -> Result<Vec<Note>, Memory>
 }
 
 /// A note on how many more errors or warnings there are, where there are some.
-pub(crate) fn more_notes(alloc: Global, severity: Severity, more: usize) -> Result<Vec<Note>, Memory>
+pub(crate) fn more_notes(
+    alloc: Global,
+    severity: Severity,
+    more: usize,
+) -> Result<Vec<Note>, Memory>
     ensures { IfOk result (λ notes. notes.items ≡ more_notes severity more) }
 {
     if more == 0 {

@@ -1,9 +1,12 @@
 //! What an accepted program is warned of.
 
-ghost use Rattle.std.specs.Prelude.{◌<◌, ◌≤◌, length, IfOk};
+ghost use Rattle.std.specs.Prelude.{◌≡◌, ◌<◌, ◌≤◌, length, IfOk};
 ghost use Rattle.os_ast.specs.Views.{program_tree};
 ghost use Rattle.os_lexer.specs.Limits.{text_limit};
 ghost use Rattle.os_lexer.specs.Names.{input_id, output_id};
+ghost use Rattle.oscheck.specs.Findings.{IsPlaceOf};
+ghost use Rattle.oscheck.specs.Warned.{kind_of};
+ghost use Rattle.oscheck_reports.specs.declared.check.Check.TheVariants as checks;
 ghost use Rattle.oscheck_warnings.specs.Accesses.{accesses};
 ghost use Rattle.oscheck_warnings.specs.Bursts.{AreWrongBursts};
 ghost use Rattle.oscheck_warnings.specs.DeadStores.{AreDeadStores};
@@ -14,13 +17,15 @@ ghost use Rattle.oscheck_warnings.specs.Streams.{AreInClauses};
 ghost use Rattle.oscheck_warnings.specs.Warnings.{AreRepeated};
 ghost use Rattle.oscheck_warnings.specs.WindowSizes.{AreWrongSizes};
 
-use crate::judged::Judged;
+use crate::found::found_at;
+use crate::judging::Named;
 use crate::manner::{Extent, Manner, Strictness};
-use crate::telling::{Named, show, tell_more, tell_no_memory};
+use crate::reports::more_notes;
 use os_io::Memory;
 use os_lexer::names::{INPUT, OUTPUT};
-use os_lexer::{Kind, LexError, Token, lex};
-use oscheck_places::{Spot, column};
+use os_lexer::{Kind, Token, lex};
+use oscheck_places::Spot;
+use oscheck_reports::{Check, Finding, Note, Report, Severity, Warning as WarningCheck};
 use oscheck_sentences::{Word, word_of};
 use oscheck_warnings::{
     Places, dead_stores, is_bare_task, is_empty_body, is_left_out, is_lone_name, is_octal,
@@ -51,6 +56,25 @@ enum Warning {
     EmptyBody,
     /// It is a number whose digits are octal, with this value.
     Octal(u32),
+}
+
+impl Warning {
+    /// Which check it is an instance of.
+    fn kind(self) -> WarningCheck
+        ensures { result ≡ kind_of self }
+    {
+        match self {
+            Warning::BareTask => WarningCheck::BareTask,
+            Warning::LoneName => WarningCheck::LoneName,
+            Warning::Stream(_) => WarningCheck::IdleStream,
+            Warning::DeadStore => WarningCheck::DeadStore,
+            Warning::WrongBurst => WarningCheck::WrongBurst,
+            Warning::WrongSize => WarningCheck::WrongSize,
+            Warning::OpenEnd => WarningCheck::OpenEnd,
+            Warning::EmptyBody => WarningCheck::EmptyBody,
+            Warning::Octal(_) => WarningCheck::Octal,
+        }
+    }
 }
 
 /// What tasks don't do with a stream.
@@ -175,32 +199,22 @@ fn octal_at(text: &[u8], token: Token) -> Option<Warning> {
     }
 }
 
-/// Tells a warning: its place, what is wrong there, and the line with a mark under the token.
-fn tell_warning(
-    out: &mut impl io::Write,
-    alloc: Global,
-    named: Named<'_>,
-    token: Token,
-    warning: Warning,
-) -> io::Result<()> {
-    let spot = Spot::of_token(token);
-    tell_warned(out, named, spot)?;
+/// Writes what a warning says.
+fn tell_warning(out: &mut impl io::Write, word: Word<'_>, warning: Warning) -> io::Result<()> {
     match warning {
         Warning::BareTask => write!(
             out,
             "a task without clauses reads no stream and writes none: give it an item, or take it out"
-        )?,
-        Warning::LoneName => tell_lone(out, word_of(named.text, token))?,
-        Warning::Stream(lack) => tell_stream(out, lack, word_of(named.text, token))?,
-        Warning::DeadStore => tell_dead_store(out, word_of(named.text, token))?,
-        Warning::WrongBurst => tell_wrong_burst(out, word_of(named.text, token))?,
-        Warning::WrongSize => tell_wrong_size(out, word_of(named.text, token))?,
-        Warning::OpenEnd => tell_open_end(out, word_of(named.text, token))?,
-        Warning::EmptyBody => tell_empty_body(out, word_of(named.text, token))?,
-        Warning::Octal(value) => tell_octal(out, word_of(named.text, token), value)?,
+        ),
+        Warning::LoneName => tell_lone(out, word),
+        Warning::Stream(lack) => tell_stream(out, lack, word),
+        Warning::DeadStore => tell_dead_store(out, word),
+        Warning::WrongBurst => tell_wrong_burst(out, word),
+        Warning::WrongSize => tell_wrong_size(out, word),
+        Warning::OpenEnd => tell_open_end(out, word),
+        Warning::EmptyBody => tell_empty_body(out, word),
+        Warning::Octal(value) => tell_octal(out, word, value),
     }
-    show(out, alloc, named, spot)?;
-    Ok(())
 }
 
 /// Tells that nothing uses a name.
@@ -276,106 +290,113 @@ fn tell_octal(out: &mut impl io::Write, number: Word<'_>, value: u32) -> io::Res
     )
 }
 
-/// Tells the place of a warning, which its sentence goes on from.
-fn tell_warned(out: &mut impl io::Write, named: Named<'_>, spot: Spot) -> io::Result<()> {
-    let Named { name, text } = named;
-    let line = spot.line;
-    if spot.start > text.len() {
-        return write!(out, "{name}:{line}: warning: ");
+/// A warning at its token.
+fn warning_found(
+    alloc: Global,
+    text: &[u8],
+    token: Token,
+    warning: Warning,
+) -> Result<Finding, Memory>
+    ensures check { IfOk result (λ finding. finding.check ≡ checks.Warning (kind_of warning)) }
+    ensures place { IfOk result (λ finding. IsPlaceOf text.now token.line token.start finding.place) }
+{
+    let mut said = Vec::new(alloc);
+    match tell_warning(&mut said, word_of(text, token), warning) {
+        Ok(()) => {
+            let check = Check::Warning(warning.kind());
+            found_at(alloc, text, check, Spot::of_token(token), &said)
+        }
+        Err(_) => Err(Memory),
     }
-    let column = column(text, spot.start);
-    write!(out, "{name}:{line}:{column}: warning: ")
 }
 
-/// Tells the first warnings of a program and how many more there are, and says how many there are in all.
-fn tell_warnings(
-    out: &mut impl io::Write,
+/// The warnings of a program that are told, and how many there are in all.
+#[derive(Drop)]
+struct Warned {
+    findings: Vec<Finding>,
+    count: usize,
+}
+
+/// The first warnings of a program, and how many there are in all.
+fn warned_by(
     alloc: Global,
-    named: Named<'_>,
+    text: &[u8],
     tokens: &[Token],
     uses: &Uses,
     extent: Extent,
-) -> io::Result<usize>
+) -> Result<Warned, Memory>
     requires few { length tokens.now ≤ text_limit }
     requires repeated { AreRepeated tokens.now uses.now.repeated.items }
     requires read { AreInClauses tokens.now input_id uses.now.read.items }
     requires written { AreInClauses tokens.now output_id uses.now.written.items }
 {
+    let mut findings = Vec::new(alloc);
     let mut count: usize = 0;
     for place in 0..tokens.len() {
-        if let Some(warning) = warning_at(named.text, tokens, uses, place) {
+        if let Some(warning) = warning_at(text, tokens, uses, place) {
             if count < extent.most() {
-                tell_warning(out, alloc, named, tokens[place], warning)?;
+                findings.push(warning_found(alloc, text, tokens[place], warning)?)?;
             }
             count = count.saturating_add(1);
         }
     }
-    tell_more(out, named.name, extent.more(count), "warning")?;
-    Ok(count)
+    Ok(Warned { findings, count })
 }
 
-/// Tells what an accepted program is warned of, by its tokens, and says how many warnings there are.
-fn warn_of(
-    out: &mut impl io::Write,
+/// What an accepted program is warned of, by its tokens.
+fn warned_of_tokens(
     alloc: Global,
-    named: Named<'_>,
+    text: &[u8],
     tokens: &[Token],
     checked: &Checked,
     extent: Extent,
-) -> io::Result<Result<usize, Memory>>
+) -> Result<Warned, Memory>
     requires { length tokens.now ≤ text_limit }
 {
-    match uses_of(alloc, tokens, checked) {
-        Ok(uses) => Ok(Ok(tell_warnings(out, alloc, named, tokens, &uses, extent)?)),
-        Err(Memory) => Ok(Err(Memory)),
-    }
+    let uses = uses_of(alloc, tokens, checked)?;
+    warned_by(alloc, text, tokens, &uses, extent)
 }
 
-/// Tells what an accepted program is warned of, and says how many warnings there are.
-fn warn(
-    out: &mut impl io::Write,
+/// What an accepted program is warned of.
+fn warned_of(
     alloc: Global,
-    named: Named<'_>,
+    text: &[u8],
     checked: &Checked,
     extent: Extent,
-) -> io::Result<Result<usize, Memory>>
-    requires { length named.text.now ≤ text_limit }
+) -> Result<Warned, Memory>
+    requires { length text.now ≤ text_limit }
 {
-    match lex(alloc, named.text) {
-        Ok(tokens) => warn_of(out, alloc, named, &tokens, checked, extent),
-        Err(LexError::Memory) => Ok(Err(Memory)),
-        Err(_) => Ok(Ok(0)),
+    match lex(alloc, text) {
+        Ok(tokens) => warned_of_tokens(alloc, text, &tokens, checked, extent),
+        Err(_) => Err(Memory),
     }
 }
 
-/// Tells the warnings of an accepted program, and that it is accepted, unless warnings are errors and there are some.
-pub(crate) fn tell_accepted(
-    out: &mut impl io::Write,
+/// The note that a program with so many warnings is accepted, or that it isn't.
+fn verdict(count: usize, strictness: Strictness) -> Note {
+    if count > 0 && strictness == Strictness::Strict {
+        Note::RefusedForWarnings
+    } else {
+        Note::Accepted
+    }
+}
+
+/// A report on an accepted program: what it is warned of, and whether it is accepted for all that.
+pub(crate) fn accepted_report(
     alloc: Global,
     named: Named<'_>,
     checked: &Checked,
     manner: Manner,
-) -> io::Result<Judged>
+) -> Result<Report, Memory>
     requires { length named.text.now ≤ text_limit }
 {
-    let name = named.name;
-    match warn(out, alloc, named, checked, manner.extent)? {
-        Ok(count) => tell_verdict(out, name, count, manner.strictness),
-        Err(Memory) => tell_no_memory(out, name),
-    }
-}
-
-/// Tells that a program with `count` warnings is accepted, or that it isn't.
-fn tell_verdict(
-    out: &mut impl io::Write,
-    name: &str,
-    count: usize,
-    strictness: Strictness,
-) -> io::Result<Judged> {
-    if count > 0 && strictness == Strictness::Strict {
-        writeln!(out, "{name}: refused for its warnings")?;
-        return Ok(Judged::Refused);
-    }
-    writeln!(out, "{name}: accepted")?;
-    Ok(Judged::Accepted)
+    let Warned { findings, count } = warned_of(alloc, named.text, checked, manner.extent)?;
+    let mut notes = more_notes(alloc, Severity::Warning, manner.extent.more(count))?;
+    notes.push(verdict(count, manner.strictness))?;
+    let name = String::from_str(alloc, named.name)?;
+    Ok(Report {
+        name,
+        findings,
+        notes,
+    })
 }
