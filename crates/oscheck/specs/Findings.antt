@@ -1,5 +1,5 @@
 -- What is found in a text that violates rules.
-use Rattle.std.specs.Prelude.{◌≡◌, ◌<◌, ◌≤◌, ◌==◌, ◌-◌, ℕ, List, [], ◌∷◌, Option, Some, None, length, take, if◌then◌else◌}
+use Rattle.std.specs.Prelude.{◌≡◌, ◌<◌, ◌≤◌, ◌==◌, ◌-◌, ℕ, List, [], ◌∷◌, ◌++◌, Option, Some, None, length, if◌then◌else◌}
 use Rattle.os_ast.specs.declared.violation.Violation.{Violation}
 use Rattle.os_lexer.specs.declared.token.Token.{Token}
 use Rattle.oscheck.specs.Listed.{token_of}
@@ -28,11 +28,10 @@ pub record IsFindingOf (text : List ℕ) (tokens : List Token) (v : Violation) (
   pub rule : f.check ≡ checks.Rule v.rule
   pub place : IsPlaceOfToken text v.line (token_of tokens v) f.place
 
--- findings tell violations, one each, in their order
-pub data AreFindingsOf (text : List ℕ) (tokens : List Token) : List Violation → List Finding → Type 0 where
-  no_more : AreFindingsOf text tokens [] []
-  and_one : (v : Violation) (f : Finding) {vs : List Violation} {fs : List Finding} → IsFindingOf text tokens v f → AreFindingsOf text tokens vs fs
-      → AreFindingsOf text tokens (v ∷ vs) (f ∷ fs)
+-- findings tell some things, one each, in their order
+pub data EachTold {A : Type 0} (Tells : A → Finding → Type 0) : List A → List Finding → Type 0 where
+  no_more : EachTold Tells [] []
+  and_one : {xs : List A} {fs : List Finding} (x : A) (f : Finding) → EachTold Tells xs fs → Tells x f → EachTold Tells (xs ++ x ∷ []) (fs ++ f ∷ [])
 
 -- that there are more than are told
 abbrev pub more_notes : Severity → ℕ → List Note

@@ -1,9 +1,8 @@
 //! What is wrong with a text that isn't accepted.
 
-ghost use Rattle.std.specs.Prelude.{◌≡◌, ◌≤◌, IfOk, length, min, take};
-ghost use Rattle.os_lexer.specs.Cover.{IsTokenCover};
+ghost use Rattle.std.specs.Prelude.{◌≡◌, ◌≤◌, IfOk, length, take};
 ghost use Rattle.os_lexer.specs.Limits.{text_limit};
-ghost use Rattle.oscheck.specs.Findings.{AreFindingsOf, IsFindingOf};
+ghost use Rattle.oscheck.specs.Findings.{EachTold, IsFindingOf};
 ghost use Rattle.oscheck_reports.specs.declared.check.Check.TheVariants as checks;
 
 use crate::found::{found_at, found_of};
@@ -110,7 +109,7 @@ fn violation_found(
     judging: Judging<'_>,
     violation: Violation,
 ) -> Result<Finding, Memory>
-    ensures { IfOk result (IsFindingOf judging.text.now judging.tokens.now violation) }
+    ensures { IfOk result (IsFindingOf judging.entry.text.now judging.entry.tokens.now violation) }
 {
     let check = Check::Rule(violation.rule);
     match token_of(judging.tokens, violation) {
@@ -132,7 +131,7 @@ pub(crate) fn violations_found(
     all: &[Violation],
     most: usize,
 ) -> Result<Vec<Finding>, Memory>
-    ensures { IfOk result (λ findings. AreFindingsOf judging.text.now judging.tokens.now (take most all.now) findings.items) }
+    ensures { IfOk result (λ findings. EachTold (IsFindingOf judging.entry.text.now judging.entry.tokens.now) (take most all.now) findings.items) }
 {
     let mut findings = Vec::new(alloc);
     for number in 0..all.len().min(most) {

@@ -1,7 +1,13 @@
 //! What is found in a text.
 
-ghost use Rattle.std.specs.Prelude.{◌≤◌, length};
+ghost use Rattle.std.specs.Prelude.{◌≡◌, ◌≤◌, IfOk, length, string_bytes, take};
+ghost use Rattle.front_end.specs.Codes.{refusal_code};
+ghost use Rattle.front_end.specs.Texts.{IsRefused};
+ghost use Rattle.os_lexer.specs.Cover.{IsTokenCover};
 ghost use Rattle.os_lexer.specs.Limits.{text_limit};
+ghost use Rattle.oscheck.specs.Findings.{EachTold, IsFindingOf, more_notes};
+ghost use Rattle.oscheck.specs.Reports.{IsReportOn, more_of, most_of};
+ghost use Rattle.oscheck_reports.specs.declared.check.Severity.TheVariants as severities;
 
 use crate::errors::{Judging, fault_found, stop_found, violations_found};
 use crate::listing::listed;
@@ -30,7 +36,12 @@ fn report_of_all(
     judging: Judging<'_>,
     all: &[Violation],
     extent: Extent,
-) -> Result<Report, Memory> {
+) -> Result<Report, Memory>
+    ensures name { IfOk result (λ report. string_bytes report.name ≡ name.now) }
+    ensures findings { IfOk result (λ report. EachTold (IsFindingOf judging.entry.text.now judging.entry.tokens.now)
+        (take (most_of extent) all.now) report.findings.items) }
+    ensures notes { IfOk result (λ report. report.notes.items ≡ more_notes severities.Error (more_of extent (length all.now))) }
+{
     let findings = violations_found(alloc, judging, all, extent.most())?;
     let notes = more_notes(alloc, Severity::Error, extent.more(all.len()))?;
     let name = String::from_str(alloc, name)?;
@@ -46,9 +57,12 @@ fn report_of_tokens(
     alloc: Global,
     named: Named<'_>,
     tokens: &[Token],
-    extent: Extent,
+    manner: Manner,
 ) -> Result<Report, Memory>
-    requires { length tokens.now ≤ text_limit }
+    requires few { length tokens.now ≤ text_limit }
+    requires cover { IsTokenCover named.text.now tokens.now }
+    ensures name { IfOk result (λ report. string_bytes report.name ≡ named.entry.name.now) }
+    ensures report { IfOk result (IsReportOn named.entry.text.now manner) }
 {
     let all = listed(alloc, tokens)?;
     let uses = uses(alloc, tokens)?;
@@ -57,15 +71,18 @@ fn report_of_tokens(
         tokens,
         uses: &uses,
     };
-    report_of_all(alloc, named.name, judging, all.as_slice(), extent)
+    let report = report_of_all(alloc, named.name, judging, all.as_slice(), manner.extent)?;
+    Ok(report)
 }
 
 /// A report on a text that violates rules.
-fn violated_report(alloc: Global, named: Named<'_>, extent: Extent) -> Result<Report, Memory>
+fn violated_report(alloc: Global, named: Named<'_>, manner: Manner) -> Result<Report, Memory>
     requires { length named.text.now ≤ text_limit }
+    ensures name { IfOk result (λ report. string_bytes report.name ≡ named.entry.name.now) }
+    ensures report { IfOk result (IsReportOn named.entry.text.now manner) }
 {
     match lex(alloc, named.text) {
-        Ok(tokens) => report_of_tokens(alloc, named, &tokens, extent),
+        Ok(tokens) => report_of_tokens(alloc, named, &tokens, manner),
         Err(_) => Err(Memory),
     }
 }
@@ -76,26 +93,37 @@ fn refused_report(
     named: Named<'_>,
     refusal: TextRefusal,
     line: u32,
-    extent: Extent,
+    manner: Manner,
 ) -> Result<Report, Memory>
-    requires { length named.text.now ≤ text_limit }
+    requires few { length named.text.now ≤ text_limit }
+    requires refused { IsRefused named.text.now (refusal_code refusal) line }
+    ensures name { IfOk result (λ report. string_bytes report.name ≡ named.entry.name.now) }
+    ensures report { IfOk result (IsReportOn named.entry.text.now manner) }
 {
     let Named { name, text } = named;
     match refusal {
-        TextRefusal::Fault(fault) => of_one(alloc, name, fault_found(alloc, text, fault, line)?),
-        TextRefusal::NoProgram => of_one(alloc, name, stop_found(alloc, text)?),
-        TextRefusal::Violated(_) => violated_report(alloc, named, extent),
+        TextRefusal::Fault(fault) => {
+            let report = of_one(alloc, name, fault_found(alloc, text, fault, line)?)?;
+            Ok(report)
+        }
+        TextRefusal::NoProgram => {
+            let report = of_one(alloc, name, stop_found(alloc, text)?)?;
+            Ok(report)
+        }
+        TextRefusal::Violated(_) => violated_report(alloc, named, manner),
     }
 }
 
 /// A report on a text: what is wrong with it, or that it is accepted and what it is warned of.
 pub(crate) fn report_on(alloc: Global, named: Named<'_>, manner: Manner) -> Result<Report, Memory>
     requires { length named.text.now ≤ text_limit }
+    ensures name { IfOk result (λ report. string_bytes report.name ≡ named.entry.name.now) }
+    ensures report { IfOk result (IsReportOn named.entry.text.now manner) }
 {
     match read_program(alloc, named.text) {
         Ok(checked) => accepted_report(alloc, named, &checked, manner),
         Err(TextError::Refused { refusal, line }) => {
-            refused_report(alloc, named, refusal, line, manner.extent)
+            refused_report(alloc, named, refusal, line, manner)
         }
         Err(TextError::Memory) => Err(Memory),
     }

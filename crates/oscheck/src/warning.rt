@@ -1,21 +1,19 @@
 //! What an accepted program is warned of.
 
-ghost use Rattle.std.specs.Prelude.{◌≡◌, ◌<◌, ◌≤◌, length, IfOk};
+ghost use Rattle.std.specs.Prelude.{◌≡◌, ◌<◌, ◌≤◌, ◌↔◌, ℕ, IsTrue, Option, Some, IfOk, IfSome, IfNone, OnOk, ◌+◌, length, string_bytes, take};
+ghost use Rattle.std.specs.List.{slice_get};
+ghost use Rattle.front_end.specs.Texts.{IsAccepted};
+ghost use Rattle.os_ast.specs.Trees.{ProgramTree};
 ghost use Rattle.os_ast.specs.Views.{program_tree};
+ghost use Rattle.os_ast.specs.declared.names.What.{What};
+ghost use Rattle.os_lexer.specs.Cover.{IsTokenCover};
 ghost use Rattle.os_lexer.specs.Limits.{text_limit};
-ghost use Rattle.os_lexer.specs.Names.{input_id, output_id};
-ghost use Rattle.oscheck.specs.Findings.{IsPlaceOf};
-ghost use Rattle.oscheck.specs.Warned.{kind_of};
-ghost use Rattle.oscheck_reports.specs.declared.check.Check.TheVariants as checks;
-ghost use Rattle.oscheck_warnings.specs.Accesses.{accesses};
-ghost use Rattle.oscheck_warnings.specs.Bursts.{AreWrongBursts};
-ghost use Rattle.oscheck_warnings.specs.DeadStores.{AreDeadStores};
-ghost use Rattle.oscheck_warnings.specs.Extents.{extents};
+ghost use Rattle.oscheck.specs.Findings.{EachTold};
+ghost use Rattle.oscheck.specs.Marks.{MarkPlaces, MarkTokens};
+ghost use Rattle.oscheck.specs.Reports.{IsReportOn, accepted_notes, verdict};
+ghost use Rattle.oscheck.specs.Warned.{AreWarned, Holds, IsFirst, IsIdle, IsOctalAt, IsWarningOf, all_warnings, kind_of};
+ghost use Rattle.oscheck_reports.specs.declared.warning.Warning.{Warning as AnyWarning};
 ghost use Rattle.oscheck_warnings.specs.Meanings.{meaning_at};
-ghost use Rattle.oscheck_warnings.specs.OpenEnds.{AreOpenEnds};
-ghost use Rattle.oscheck_warnings.specs.Streams.{AreInClauses};
-ghost use Rattle.oscheck_warnings.specs.Warnings.{AreRepeated};
-ghost use Rattle.oscheck_warnings.specs.WindowSizes.{AreWrongSizes};
 
 use crate::found::found_at;
 use crate::judging::Named;
@@ -120,83 +118,219 @@ struct Uses {
 
 /// What the names of a program are used for.
 fn uses_of(alloc: Global, tokens: &[Token], checked: &Checked) -> Result<Uses, Memory>
-    requires few { length tokens.now ≤ text_limit }
-    ensures repeated { IfOk result (λ uses. AreRepeated tokens.now uses.repeated.items) }
-    ensures read { IfOk result (λ uses. AreInClauses tokens.now input_id uses.read.items) }
-    ensures written { IfOk result (λ uses. AreInClauses tokens.now output_id uses.written.items) }
-    ensures dead { IfOk result (λ uses. AreDeadStores (accesses (program_tree checked.now.program)) (meaning_at checked.now.names) uses.dead) }
-    ensures wrong { IfOk result (λ uses. AreWrongBursts (extents (meaning_at checked.now.names) (program_tree checked.now.program))
-        (meaning_at checked.now.names) uses.wrong) }
-    ensures sizes { IfOk result (λ uses. AreWrongSizes (extents (meaning_at checked.now.names) (program_tree checked.now.program))
-        (meaning_at checked.now.names) uses.sizes) }
-    ensures open_ends { IfOk result (λ uses. AreOpenEnds (program_tree checked.now.program) uses.open_ended) }
+    requires { length tokens.now ≤ text_limit }
+    ensures tokens { IfOk result (MarkTokens tokens.now) }
+    ensures places { IfOk result (MarkPlaces (program_tree checked.now.program) (meaning_at checked.now.names)) }
 {
+    let repeated = repeated_names(alloc, tokens)?;
+    let read = names_in_clauses(alloc, tokens, INPUT)?;
+    let written = names_in_clauses(alloc, tokens, OUTPUT)?;
+    let dead = dead_stores(alloc, &checked.program, checked.names.as_slice())?;
+    let wrong = wrong_bursts(alloc, &checked.program, checked.names.as_slice())?;
+    let sizes = wrong_sizes(alloc, &checked.program, checked.names.as_slice())?;
+    let open_ended = open_ended(alloc, &checked.program)?;
     Ok(Uses {
-        repeated: repeated_names(alloc, tokens)?,
-        read: names_in_clauses(alloc, tokens, INPUT)?,
-        written: names_in_clauses(alloc, tokens, OUTPUT)?,
-        dead: dead_stores(alloc, &checked.program, checked.names.as_slice())?,
-        wrong: wrong_bursts(alloc, &checked.program, checked.names.as_slice())?,
-        sizes: wrong_sizes(alloc, &checked.program, checked.names.as_slice())?,
-        open_ended: open_ended(alloc, &checked.program)?,
+        repeated,
+        read,
+        written,
+        dead,
+        wrong,
+        sizes,
+        open_ended,
     })
 }
 
-/// What tasks don't do with a stream that is declared at a place.
-fn lack_at(tokens: &[Token], uses: &Uses, place: usize) -> Option<Lack>
+/// Whether tasks don't read, or don't write, the stream that is declared at a place.
+fn is_idle(tokens: &[Token], uses: &Uses, place: usize) -> bool
     requires within { place < length tokens.now }
     requires few { length tokens.now ≤ text_limit }
-    requires read { AreInClauses tokens.now input_id uses.now.read.items }
-    requires written { AreInClauses tokens.now output_id uses.now.written.items }
+    requires marks { MarkTokens tokens.now uses.now }
+    ensures { IsTrue result ↔ IsIdle tokens.now place }
+{
+    is_left_out(tokens, INPUT, &uses.read, place)
+        || is_left_out(tokens, OUTPUT, &uses.written, place)
+}
+
+/// What tasks don't do with a stream that is declared at a place, and with which they don't do all.
+fn lack_at(tokens: &[Token], uses: &Uses, place: usize) -> Lack
+    requires within { place < length tokens.now }
+    requires few { length tokens.now ≤ text_limit }
+    requires marks { MarkTokens tokens.now uses.now }
 {
     match (
         is_left_out(tokens, INPUT, &uses.read, place),
         is_left_out(tokens, OUTPUT, &uses.written, place),
     ) {
-        (true, true) => Some(Lack::Both),
-        (true, false) => Some(Lack::Reads),
-        (false, true) => Some(Lack::Writes),
-        (false, false) => None,
+        (true, true) => Lack::Both,
+        (true, false) => Lack::Reads,
+        _ => Lack::Writes,
     }
+}
+
+/// The value of a number.
+fn value_of(token: Token) -> u32 {
+    match token.kind {
+        Kind::Number(value) | Kind::Wide(value) => value,
+        _ => 0,
+    }
+}
+
+/// Whether a number stands at a place whose digits are octal.
+fn is_octal_at(text: &[u8], tokens: &[Token], place: usize) -> bool
+    ensures { IsTrue result ↔ IsOctalAt text.now tokens.now place }
+{
+    match tokens.get(place) {
+        Some(token) => is_octal(text, *token),
+        None => false,
+    }
+}
+
+/// Whether there is this to warn of at a place.
+fn holds(check: WarningCheck, text: &[u8], tokens: &[Token], uses: &Uses, place: usize) -> bool
+    requires within { place < length tokens.now }
+    requires few { length tokens.now ≤ text_limit }
+    requires marks { MarkTokens tokens.now uses.now }
+    ensures { (p : ProgramTree) (means : ℕ → Option What) → MarkPlaces p means uses.now
+        → IsTrue result ↔ Holds text.now tokens.now p means check place }
+{
+    match check {
+        WarningCheck::BareTask => is_bare_task(tokens, place),
+        WarningCheck::LoneName => is_lone_name(tokens, &uses.repeated, place),
+        WarningCheck::IdleStream => is_idle(tokens, uses, place),
+        WarningCheck::DeadStore => uses.dead.has(place as u32),
+        WarningCheck::WrongBurst => uses.wrong.has(place as u32),
+        WarningCheck::WrongSize => uses.sizes.has(place as u32),
+        WarningCheck::OpenEnd => uses.open_ended.has(place as u32),
+        WarningCheck::EmptyBody => is_empty_body(tokens, place),
+        WarningCheck::Octal => is_octal_at(text, tokens, place),
+    }
+}
+
+/// All that there may be to warn of: at a place the first that holds is told.
+fn all_warnings() -> &'static [WarningCheck]
+    ensures { result.now ≡ all_warnings }
+{
+    &[
+        WarningCheck::BareTask,
+        WarningCheck::LoneName,
+        WarningCheck::IdleStream,
+        WarningCheck::DeadStore,
+        WarningCheck::WrongBurst,
+        WarningCheck::WrongSize,
+        WarningCheck::OpenEnd,
+        WarningCheck::EmptyBody,
+        WarningCheck::Octal,
+    ]
+}
+
+/// What is told of a place.
+fn first_at(text: &[u8], tokens: &[Token], uses: &Uses, place: usize) -> Option<WarningCheck>
+    requires within { place < length tokens.now }
+    requires few { length tokens.now ≤ text_limit }
+    requires marks { MarkTokens tokens.now uses.now }
+    ensures some { (p : ProgramTree) (means : ℕ → Option What) → MarkPlaces p means uses.now
+        → IfSome result (IsFirst text.now tokens.now p means place) }
+    ensures none { (p : ProgramTree) (means : ℕ → Option What) → MarkPlaces p means uses.now
+        → IfNone result ((check : AnyWarning) → Holds text.now tokens.now p means check place → ⊥) }
+{
+    let all = all_warnings();
+    for number in 0..all.len() {
+        let check = all[number];
+        if holds(check, text, tokens, uses, place) {
+            return Some(check);
+        }
+    }
+    None
+}
+
+/// What is told of a place, with what its sentence speaks of.
+fn warning_of(check: WarningCheck, tokens: &[Token], uses: &Uses, place: usize) -> Warning
+    requires within { place < length tokens.now }
+    requires few { length tokens.now ≤ text_limit }
+    requires marks { MarkTokens tokens.now uses.now }
+    ensures { kind_of result ≡ check }
+{
+    match check {
+        WarningCheck::BareTask => Warning::BareTask,
+        WarningCheck::LoneName => Warning::LoneName,
+        WarningCheck::IdleStream => Warning::Stream(lack_at(tokens, uses, place)),
+        WarningCheck::DeadStore => Warning::DeadStore,
+        WarningCheck::WrongBurst => Warning::WrongBurst,
+        WarningCheck::WrongSize => Warning::WrongSize,
+        WarningCheck::OpenEnd => Warning::OpenEnd,
+        WarningCheck::EmptyBody => Warning::EmptyBody,
+        WarningCheck::Octal => Warning::Octal(value_of(tokens[place])),
+    }
+}
+
+/// A token that is warned of, with its place among the tokens.
+#[derive(Clone, Copy)]
+pub(crate) struct Warned {
+    place: usize,
+    token: Token,
+    warning: Warning,
 }
 
 /// What there is to warn of at a place.
-fn warning_at(text: &[u8], tokens: &[Token], uses: &Uses, place: usize) -> Option<Warning>
+fn warned_at(text: &[u8], tokens: &[Token], uses: &Uses, place: usize) -> Option<Warned>
     requires within { place < length tokens.now }
     requires few { length tokens.now ≤ text_limit }
-    requires repeated { AreRepeated tokens.now uses.now.repeated.items }
-    requires read { AreInClauses tokens.now input_id uses.now.read.items }
-    requires written { AreInClauses tokens.now output_id uses.now.written.items }
+    requires marks { MarkTokens tokens.now uses.now }
+    ensures place { IfSome result (λ warned. warned.place ≡ place) }
+    ensures token { IfSome result (λ warned. slice_get tokens.now place ≡ Some warned.token) }
+    ensures some { (p : ProgramTree) (means : ℕ → Option What) → MarkPlaces p means uses.now
+        → IfSome result (λ warned. IsFirst text.now tokens.now p means place (kind_of warned.warning)) }
+    ensures none { (p : ProgramTree) (means : ℕ → Option What) → MarkPlaces p means uses.now
+        → IfNone result ((check : AnyWarning) → Holds text.now tokens.now p means check place → ⊥) }
 {
-    if is_bare_task(tokens, place) {
-        Some(Warning::BareTask)
-    } else if is_lone_name(tokens, &uses.repeated, place) {
-        Some(Warning::LoneName)
-    } else if let Some(lack) = lack_at(tokens, uses, place) {
-        Some(Warning::Stream(lack))
-    } else if uses.dead.has(place as u32) {
-        Some(Warning::DeadStore)
-    } else if uses.wrong.has(place as u32) {
-        Some(Warning::WrongBurst)
-    } else if uses.sizes.has(place as u32) {
-        Some(Warning::WrongSize)
-    } else if uses.open_ended.has(place as u32) {
-        Some(Warning::OpenEnd)
-    } else if is_empty_body(tokens, place) {
-        Some(Warning::EmptyBody)
-    } else {
-        octal_at(text, tokens[place])
+    match first_at(text, tokens, uses, place) {
+        Some(check) => Some(Warned {
+            place,
+            token: tokens[place],
+            warning: warning_of(check, tokens, uses, place),
+        }),
+        None => None,
     }
 }
 
-/// What there is to warn of a number whose digits are octal.
-fn octal_at(text: &[u8], token: Token) -> Option<Warning> {
-    match token.kind {
-        Kind::Number(value) | Kind::Wide(value) if is_octal(text, token) => {
-            Some(Warning::Octal(value))
-        }
-        _ => None,
+/// Adds what there is to warn of at a place.
+fn add_warned(
+    all: &mut Vec<Warned>,
+    text: &[u8],
+    tokens: &[Token],
+    uses: &Uses,
+    place: usize,
+) -> Result<(), Memory>
+    requires within { place < length tokens.now }
+    requires few { length tokens.now ≤ text_limit }
+    requires marks { MarkTokens tokens.now uses.now }
+    ensures { (p : ProgramTree) (means : ℕ → Option What) → MarkPlaces p means uses.now
+        → AreWarned text.now tokens.now p means place all.old.items
+        → OnOk result (AreWarned text.now tokens.now p means (place + 1) all.new.items) }
+{
+    if let Some(warned) = warned_at(text, tokens, uses, place) {
+        all.push(warned)?;
     }
+    Ok(())
+}
+
+/// All that there is to warn of in a program.
+fn warned_in(
+    alloc: Global,
+    text: &[u8],
+    tokens: &[Token],
+    uses: &Uses,
+) -> Result<Vec<Warned>, Memory>
+    requires few { length tokens.now ≤ text_limit }
+    requires marks { MarkTokens tokens.now uses.now }
+    ensures { (p : ProgramTree) (means : ℕ → Option What) → MarkPlaces p means uses.now
+        → IfOk result (λ all. AreWarned text.now tokens.now p means (length tokens.now) all.items) }
+{
+    let mut all = Vec::new(alloc);
+    for place in 0..tokens.len() {
+        add_warned(&mut all, text, tokens, uses, place)?;
+    }
+    Ok(all)
 }
 
 /// Writes what a warning says.
@@ -291,15 +425,10 @@ fn tell_octal(out: &mut impl io::Write, number: Word<'_>, value: u32) -> io::Res
 }
 
 /// A warning at its token.
-fn warning_found(
-    alloc: Global,
-    text: &[u8],
-    token: Token,
-    warning: Warning,
-) -> Result<Finding, Memory>
-    ensures check { IfOk result (λ finding. finding.check ≡ checks.Warning (kind_of warning)) }
-    ensures place { IfOk result (λ finding. IsPlaceOf text.now token.line token.start finding.place) }
+fn warning_found(alloc: Global, text: &[u8], warned: Warned) -> Result<Finding, Memory>
+    ensures { IfOk result (IsWarningOf text.now warned) }
 {
+    let Warned { token, warning, .. } = warned;
     let mut said = Vec::new(alloc);
     match tell_warning(&mut said, word_of(text, token), warning) {
         Ok(()) => {
@@ -310,75 +439,66 @@ fn warning_found(
     }
 }
 
-/// The warnings of a program that are told, and how many there are in all.
-#[derive(Drop)]
-struct Warned {
-    findings: Vec<Finding>,
-    count: usize,
-}
-
-/// The first warnings of a program, and how many there are in all.
-fn warned_by(
+/// The first of some warnings, at most so many.
+fn warnings_found(
     alloc: Global,
     text: &[u8],
-    tokens: &[Token],
-    uses: &Uses,
-    extent: Extent,
-) -> Result<Warned, Memory>
-    requires few { length tokens.now ≤ text_limit }
-    requires repeated { AreRepeated tokens.now uses.now.repeated.items }
-    requires read { AreInClauses tokens.now input_id uses.now.read.items }
-    requires written { AreInClauses tokens.now output_id uses.now.written.items }
+    all: &[Warned],
+    most: usize,
+) -> Result<Vec<Finding>, Memory>
+    ensures { IfOk result (λ findings. EachTold (IsWarningOf text.now) (take most all.now) findings.items) }
 {
     let mut findings = Vec::new(alloc);
-    let mut count: usize = 0;
-    for place in 0..tokens.len() {
-        if let Some(warning) = warning_at(text, tokens, uses, place) {
-            if count < extent.most() {
-                findings.push(warning_found(alloc, text, tokens[place], warning)?)?;
-            }
-            count = count.saturating_add(1);
-        }
+    for number in 0..all.len().min(most) {
+        findings.push(warning_found(alloc, text, all[number])?)?;
     }
-    Ok(Warned { findings, count })
-}
-
-/// What an accepted program is warned of, by its tokens.
-fn warned_of_tokens(
-    alloc: Global,
-    text: &[u8],
-    tokens: &[Token],
-    checked: &Checked,
-    extent: Extent,
-) -> Result<Warned, Memory>
-    requires { length tokens.now ≤ text_limit }
-{
-    let uses = uses_of(alloc, tokens, checked)?;
-    warned_by(alloc, text, tokens, &uses, extent)
-}
-
-/// What an accepted program is warned of.
-fn warned_of(
-    alloc: Global,
-    text: &[u8],
-    checked: &Checked,
-    extent: Extent,
-) -> Result<Warned, Memory>
-    requires { length text.now ≤ text_limit }
-{
-    match lex(alloc, text) {
-        Ok(tokens) => warned_of_tokens(alloc, text, &tokens, checked, extent),
-        Err(_) => Err(Memory),
-    }
+    Ok(findings)
 }
 
 /// The note that a program with so many warnings is accepted, or that it isn't.
-fn verdict(count: usize, strictness: Strictness) -> Note {
+fn verdict(count: usize, strictness: Strictness) -> Note
+    ensures { result ≡ verdict count strictness }
+{
     if count > 0 && strictness == Strictness::Strict {
         Note::RefusedForWarnings
     } else {
         Note::Accepted
     }
+}
+
+/// The notes on a program with so many warnings.
+fn notes_on(alloc: Global, count: usize, manner: Manner) -> Result<Vec<Note>, Memory>
+    ensures { IfOk result (λ notes. notes.items ≡ accepted_notes manner count) }
+{
+    let mut notes = more_notes(alloc, Severity::Warning, manner.extent.more(count))?;
+    notes.push(verdict(count, manner.strictness))?;
+    Ok(notes)
+}
+
+/// A report on an accepted program, by its tokens.
+fn report_of_tokens(
+    alloc: Global,
+    named: Named<'_>,
+    tokens: &[Token],
+    checked: &Checked,
+    manner: Manner,
+) -> Result<Report, Memory>
+    requires few { length tokens.now ≤ text_limit }
+    requires cover { IsTokenCover named.text.now tokens.now }
+    requires accepted { IsAccepted named.text.now (program_tree checked.now.program) }
+    ensures name { IfOk result (λ report. string_bytes report.name ≡ named.entry.name.now) }
+    ensures report { IfOk result (IsReportOn named.entry.text.now manner) }
+{
+    let uses = uses_of(alloc, tokens, checked)?;
+    let all = warned_in(alloc, named.text, tokens, &uses)?;
+    let findings = warnings_found(alloc, named.text, &all, manner.extent.most())?;
+    let notes = notes_on(alloc, all.len(), manner)?;
+    let name = String::from_str(alloc, named.name)?;
+    Ok(Report {
+        name,
+        findings,
+        notes,
+    })
 }
 
 /// A report on an accepted program: what it is warned of, and whether it is accepted for all that.
@@ -388,15 +508,13 @@ pub(crate) fn accepted_report(
     checked: &Checked,
     manner: Manner,
 ) -> Result<Report, Memory>
-    requires { length named.text.now ≤ text_limit }
+    requires few { length named.text.now ≤ text_limit }
+    requires accepted { IsAccepted named.text.now (program_tree checked.now.program) }
+    ensures name { IfOk result (λ report. string_bytes report.name ≡ named.entry.name.now) }
+    ensures report { IfOk result (IsReportOn named.entry.text.now manner) }
 {
-    let Warned { findings, count } = warned_of(alloc, named.text, checked, manner.extent)?;
-    let mut notes = more_notes(alloc, Severity::Warning, manner.extent.more(count))?;
-    notes.push(verdict(count, manner.strictness))?;
-    let name = String::from_str(alloc, named.name)?;
-    Ok(Report {
-        name,
-        findings,
-        notes,
-    })
+    match lex(alloc, named.text) {
+        Ok(tokens) => report_of_tokens(alloc, named, &tokens, checked, manner),
+        Err(_) => Err(Memory),
+    }
 }
