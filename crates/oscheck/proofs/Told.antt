@@ -1,5 +1,5 @@
 -- Findings that are told one after another.
-use Rattle.std.proofs.Common.{◌≡◌, ◌+◌, ◌++◌, ◌∷◌, ◌<◌, [], ℕ, List, get_or, length, subst, sym, take}
+use Rattle.std.proofs.Common.{◌+◌, ◌++◌, ◌∷◌, ◌<◌, [], ℕ, List, get_or, length, subst, sym, take}
 use Rattle.std.proofs.lemmas.List.{take_more}
 use Rattle.oscheck.specs.Findings.{EachTold, and_one}
 use Rattle.oscheck_reports.specs.declared.finding.Finding.{Finding}

@@ -1,5 +1,5 @@
 -- What is found in a text that violates rules.
-use Rattle.std.specs.Prelude.{◌≡◌, ◌<◌, ◌≤◌, ◌==◌, ◌-◌, ℕ, List, [], ◌∷◌, ◌++◌, Option, Some, None, length, if◌then◌else◌}
+use Rattle.std.specs.Prelude.{◌≡◌, ◌<◌, ◌≤◌, ◌==◌, ℕ, List, [], ◌∷◌, ◌++◌, Option, Some, None, length, if◌then◌else◌}
 use Rattle.os_ast.specs.declared.violation.Violation.{Violation}
 use Rattle.os_lexer.specs.declared.token.Token.{Token}
 use Rattle.oscheck.specs.Listed.{token_of}

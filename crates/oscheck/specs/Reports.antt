@@ -1,5 +1,5 @@
 -- What is reported of a text. How that is written plays no part.
-use Rattle.std.specs.Prelude.{◌≡◌, ◌<◌, ◌-◌, ◌==◌, ℕ, zero, suc, List, [], ◌∷◌, ◌++◌, length, take, if◌then◌else◌}
+use Rattle.std.specs.Prelude.{◌≡◌, ◌-◌, ℕ, zero, suc, List, [], ◌∷◌, ◌++◌, length, take}
 use Rattle.front_end.specs.Codes.{no_program}
 use Rattle.front_end.specs.Texts.{IsAccepted, IsRefused}
 use Rattle.os_ast.specs.Violations as rules

@@ -1,6 +1,6 @@
 //! What an accepted program is warned of.
 
-ghost use Rattle.std.specs.Prelude.{◌≡◌, ◌<◌, ◌≤◌, ◌↔◌, ℕ, IsTrue, Option, Some, IfOk, IfSome, IfNone, OnOk, ◌+◌, length, string_bytes, take};
+ghost use Rattle.std.specs.Prelude.{◌≡◌, ◌<◌, ◌≤◌, ◌+◌, ◌↔◌, ℕ, IsTrue, Option, Some, IfOk, IfSome, IfNone, OnOk, length, string_bytes, take};
 ghost use Rattle.std.specs.List.{slice_get};
 ghost use Rattle.front_end.specs.Texts.{IsAccepted};
 ghost use Rattle.os_ast.specs.Trees.{ProgramTree};

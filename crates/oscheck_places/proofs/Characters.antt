@@ -1,5 +1,5 @@
 -- Characters of texts that are joined.
-use Rattle.std.proofs.Common.{◌≡◌, ◌∙◌, ◌+◌, ◌++◌, ◌∷◌, ◌<◌, [], ℕ, List, ap, arith, get_or, length, refl, take}
+use Rattle.std.proofs.Common.{◌≡◌, ◌∙◌, ◌+◌, ◌++◌, ◌∷◌, ◌<◌, [], ℕ, List, ap, arith, get_or, length, take}
 use Rattle.std.proofs.lemmas.List.{take_more}
 use Rattle.oscheck_places.specs.Lines.{begun, characters}
 

@@ -1,5 +1,5 @@
 -- The value of reports has no number but whole ones.
-use Rattle.std.proofs.Common.{◌≡◌, ◌∙◌, ◌++◌, ◌∷◌, [], ℕ, List, Bool, true, false, map, refl, string_bytes}
+use Rattle.std.proofs.Common.{◌≡◌, ◌++◌, ◌∷◌, [], ℕ, List, Bool, true, false, map, refl, string_bytes}
 use Rattle.std.proofs.lemmas.Bool.{or_parts, or_from}
 use Rattle.std.specs.List.{flat_map}
 use Rattle.serde_json.specs.Data.{Data}
@@ -7,9 +7,7 @@ use Rattle.serde_json.specs.View.{items_of}
 use Rattle.serde_json.specs.Written.{has_float, items_have_float}
 use Rattle.oscheck_reports.specs.Checks.{all_checks}
 use Rattle.oscheck_reports.specs.Notes.{is_accepted}
-use Rattle.oscheck_reports.specs.Sarif.{finding_value, finding_values, invocation, log, note_value, note_values, rule_value, told_values, tool, uri_of}
-use Rattle.oscheck_reports.specs.declared.check.Check.{Check}
-use Rattle.oscheck_reports.specs.declared.finding.Finding.{Finding}
+use Rattle.oscheck_reports.specs.Sarif.{finding_value, finding_values, invocation, log, note_values, rule_value, told_values, tool, uri_of}
 use Rattle.oscheck_reports.specs.declared.note.Note.{Note}
 use Rattle.oscheck_reports.specs.declared.report.Report.{Report}
 

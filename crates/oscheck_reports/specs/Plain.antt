@@ -4,7 +4,6 @@ use Rattle.std.specs.Fmt.{decimal}
 use Rattle.std.specs.List.{flat_map}
 use Rattle.oscheck_reports.specs.Checks.{code_of, severity_of}
 use Rattle.oscheck_reports.specs.Notes.{note_text, severity_word}
-use Rattle.oscheck_reports.specs.declared.check.Check.{Check}
 use Rattle.oscheck_reports.specs.declared.finding.Finding.{Finding}
 use Rattle.oscheck_reports.specs.declared.finding.Place.{Place}
 use Rattle.oscheck_reports.specs.declared.finding.Place.TheVariants as place

@@ -5,7 +5,8 @@ ghost use Rattle.std.specs.List.{flat_map, list_any};
 ghost use Rattle.serde_json.specs.Data.{array};
 ghost use Rattle.serde_json.specs.View.{items_of, view};
 ghost use Rattle.oscheck_reports.specs.Checks.{all_checks};
-ghost use Rattle.oscheck_reports.specs.Sarif.{finding_value, finding_values, has_failed, invocation, log, note_values, rule_value, run_value, sarif_form, told_values, tool};
+ghost use Rattle.oscheck_reports.specs.Sarif.{finding_value, finding_values, note_values, rule_value, told_values};
+ghost use Rattle.oscheck_reports.specs.Sarif.{has_failed, invocation, log, run_value, sarif_form, tool};
 
 use crate::check_words::all_checks;
 use crate::finding::Finding;

@@ -1,5 +1,5 @@
 use Rattle.std.proofs.Common.{arith}
-use Rattle.oscheck.specs.Findings.{IsPlaceOf, is_behind, is_within}
+use Rattle.oscheck.specs.Findings.{is_behind, is_within}
 use Rattle.oscheck.proofs.found.place_of.Goals as goal
 
 pub returns-then-spot-text : goal.returns-then-spot-text

@@ -1,7 +1,7 @@
 use Rattle.std.proofs.Common.{◌≡◌, ◌∙◌, ◌++◌, codes, ap, List, ℕ, false}
 use Rattle.serde_json.specs.View.{view}
 use Rattle.serde_json.specs.Written.{compact_text, has_float}
-use Rattle.oscheck_reports.specs.Sarif.{log, sarif_form}
+use Rattle.oscheck_reports.specs.Sarif.{sarif_form}
 use Rattle.oscheck_reports.proofs.NoFloats.{of_log}
 use Rattle.oscheck_reports.proofs.sarif.sarif_form.Goals as goal
 
