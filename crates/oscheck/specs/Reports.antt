@@ -1,5 +1,5 @@
--- What is reported of a text. How that is written plays no part.
-use Rattle.std.specs.Prelude.{◌≡◌, ◌-◌, ℕ, zero, suc, List, [], ◌∷◌, ◌++◌, length, take}
+-- What is reported of a text, and what is told of it in a format.
+use Rattle.std.specs.Prelude.{◌≡◌, ◌-◌, ℕ, zero, suc, List, [], ◌∷◌, ◌++◌, length, string_bytes, take}
 use Rattle.front_end.specs.Codes.{no_program}
 use Rattle.front_end.specs.Texts.{IsAccepted, IsRefused}
 use Rattle.os_ast.specs.Violations as rules
@@ -23,6 +23,8 @@ use Rattle.oscheck_reports.specs.declared.check.Severity.TheVariants as severity
 use Rattle.oscheck_reports.specs.declared.finding.Finding.{Finding}
 use Rattle.oscheck_reports.specs.declared.note.Note.{Note}
 use Rattle.oscheck_reports.specs.declared.note.Note.TheVariants as notes
+use Rattle.oscheck_reports.specs.Forms.{form}
+use Rattle.oscheck_reports.specs.declared.forms.Format.{Format}
 use Rattle.oscheck_reports.specs.declared.report.Report.{Report}
 use Rattle.oscheck_warnings.specs.Meanings.{meaning_at}
 
@@ -64,3 +66,11 @@ pub data IsReportOn (text : List ℕ) (manner : Manner) (r : Report) : Type 0 wh
       → AreWarned text tokens p (meaning_at (rules.names p)) (length tokens) ws
       → EachTold (IsWarningOf text) (take (most_of manner.extent) ws) r.findings.items
       → r.notes.items ≡ accepted_notes manner (length ws) → IsReportOn text manner r
+
+-- What is told of a text in a format: the form of a report on it, whatever the format.
+pub record IsToldOf (format : Format) (text name : List ℕ) (manner : Manner) (told : List ℕ) : Type 0 where
+  pub report : Report
+  pub named : string_bytes report.name ≡ name
+  pub is_report : IsReportOn text manner report
+  pub version : List ℕ
+  pub is_form : told ≡ form format version (report ∷ [])

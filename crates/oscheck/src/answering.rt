@@ -3,11 +3,11 @@
 use crate::completing::complete_text;
 use crate::judged::Judged;
 use crate::judging::{Named, report_on};
-use crate::loading::text_of;
+use crate::loading::{NoText, text_of};
 use crate::manner::{Extent, Manner, Strictness};
 use crate::options::{Request, option_of, tell_help, tell_no_format, tell_no_use, tell_version};
 use crate::reports::{judged_of, of_no_text, of_note};
-use crate::telling::{tell, tell_all};
+use crate::telling::{Told, tell, tell_all, told_by, told_of};
 use crate::words::word_at;
 use os_io::Memory;
 use oscheck_reports::{Format, Note, Report};
@@ -56,6 +56,25 @@ fn report_of<R: Files>(
     }
 }
 
+/// What is told of a file that has no text.
+fn told_of_no_text(alloc: Global, format: Format, name: &str, why: NoText) -> Result<Told, Memory> {
+    told_by(alloc, format, &of_no_text(alloc, name, why)?)
+}
+
+/// What is told of a file.
+fn told_of_file<R: Files>(
+    rt: &R,
+    alloc: Global,
+    format: Format,
+    name: &str,
+    manner: Manner,
+) -> Result<Told, Memory> {
+    match text_of(rt, alloc, name) {
+        Ok(text) => told_of(alloc, format, Named { name, text: &text }, manner),
+        Err(why) => told_of_no_text(alloc, format, name, why),
+    }
+}
+
 /// Writes a program that begins as the text of a file does, or tells why there is none.
 fn complete<R: Files>(
     rt: &R,
@@ -66,13 +85,7 @@ fn complete<R: Files>(
 ) -> io::Result<Judged> {
     match text_of(rt, alloc, name) {
         Ok(text) => complete_text(out, told, alloc, Named { name, text: &text }),
-        Err(why) => tell(
-            told,
-            alloc,
-            Format::Text,
-            name,
-            of_no_text(alloc, name, why),
-        ),
+        Err(why) => tell(told, name, told_of_no_text(alloc, Format::Text, name, why)),
     }
 }
 
@@ -92,29 +105,37 @@ fn keep(
     Ok(judged)
 }
 
-/// Tells a report on a file, or keeps it where all files are told of at once.
-fn deliver(
-    rt: &HostRuntime,
+/// Keeps a report on a file, where memory can be had for that.
+fn keep_or_fail(
     state: &mut WordsSoFar,
+    alloc: Global,
     name: &str,
     report: Result<Report, Memory>,
 ) -> io::Result<Judged> {
-    if state.format != Format::Sarif {
-        return tell(&mut rt.stdout(), rt.alloc(), state.format, name, report);
-    }
-    match keep(&mut state.reports, rt.alloc(), name, report) {
+    match keep(&mut state.reports, alloc, name, report) {
         Ok(judged) => Ok(judged),
         Err(Memory) => Err(io::ErrorKind::OutOfMemory.into()),
     }
 }
 
+/// Judges a file: tells of it, or keeps the report on it where all files are told of at once.
+fn judge(rt: &HostRuntime, state: &mut WordsSoFar, name: &str) -> io::Result<Judged> {
+    let alloc = rt.alloc();
+    let WordsSoFar { format, manner, .. } = *state;
+    if format == Format::Sarif {
+        return keep_or_fail(state, alloc, name, report_of(rt, alloc, name, manner));
+    }
+    tell(
+        &mut rt.stdout(),
+        name,
+        told_of_file(rt, alloc, format, name, manner),
+    )
+}
+
 /// Judges a file, or completes it.
 fn answer_name(rt: &HostRuntime, state: &mut WordsSoFar, name: &str) -> io::Result<Judged> {
     match state.way {
-        Way::Judge => {
-            let report = report_of(rt, rt.alloc(), name, state.manner);
-            deliver(rt, state, name, report)
-        }
+        Way::Judge => judge(rt, state, name),
         Way::Complete => complete(rt, &mut rt.stdout(), &mut rt.stderr(), rt.alloc(), name),
     }
 }
@@ -125,16 +146,29 @@ fn escaped(alloc: Global, word: &[u8]) -> Result<String, Memory> {
     Ok(format!(in alloc; "{escaped}")?)
 }
 
+/// What is told of a file whose name isn't text.
+fn told_of_name(alloc: Global, format: Format, name: &str) -> Result<Told, Memory> {
+    told_by(alloc, format, &of_note(alloc, name, Note::NoName)?)
+}
+
 /// Says of a file that it can't be opened: std takes text alone for a name. The name is told with its bytes escaped.
 fn refuse_name(rt: &HostRuntime, state: &mut WordsSoFar, word: &[u8]) -> io::Result<Judged> {
     let alloc = rt.alloc();
     let Ok(name) = escaped(alloc, word) else {
         return Err(io::ErrorKind::OutOfMemory.into());
     };
-    let report = of_note(alloc, &name, Note::NoName);
-    match state.way {
-        Way::Judge => deliver(rt, state, &name, report),
-        Way::Complete => tell(&mut rt.stderr(), alloc, Format::Text, &name, report),
+    match (state.way, state.format) {
+        (Way::Complete, _) => {
+            tell(
+                &mut rt.stderr(),
+                &name,
+                told_of_name(alloc, Format::Text, &name),
+            )
+        }
+        (Way::Judge, Format::Sarif) => {
+            keep_or_fail(state, alloc, &name, of_note(alloc, &name, Note::NoName))
+        }
+        (Way::Judge, format) => tell(&mut rt.stdout(), &name, told_of_name(alloc, format, &name)),
     }
 }
 

@@ -8,11 +8,11 @@ use crate::errors::fault_found;
 use crate::judged::Judged;
 use crate::judging::Named;
 use crate::reports::of_one;
-use crate::telling::{tell, tell_no_memory};
+use crate::telling::{Told, tell, tell_no_memory, told_by};
 use front_end::{TEXT_LIMIT, TextError, TextRefusal, read_program};
 use os_io::Memory;
 use os_lexer::Fault;
-use oscheck_reports::{Format, Report};
+use oscheck_reports::Format;
 use std::alloc::Global;
 use std::io;
 
@@ -48,34 +48,12 @@ fn write_text(out: &mut impl io::Write, text: &[u8]) -> io::Result<Judged> {
     Ok(Judged::Accepted)
 }
 
-/// A report on the first fault of the bytes of a text.
-fn report_on_fault(
-    alloc: Global,
-    named: Named<'_>,
-    fault: Fault,
-    line: u32,
-) -> Result<Report, Memory>
+/// What is told of the first fault of the bytes of a text.
+fn told_of_fault(alloc: Global, named: Named<'_>, fault: Fault, line: u32) -> Result<Told, Memory>
     requires { length named.text.now ≤ text_limit }
 {
-    of_one(
-        alloc,
-        named.name,
-        fault_found(alloc, named.text, fault, line)?,
-    )
-}
-
-/// Tells the first fault of the bytes of a text.
-fn tell_fault(
-    told: &mut impl io::Write,
-    alloc: Global,
-    named: Named<'_>,
-    fault: Fault,
-    line: u32,
-) -> io::Result<Judged>
-    requires { length named.text.now ≤ text_limit }
-{
-    let report = report_on_fault(alloc, named, fault, line);
-    tell(told, alloc, Format::Text, named.name, report)
+    let fault = fault_found(alloc, named.text, fault, line)?;
+    told_by(alloc, Format::Text, &of_one(alloc, named.name, fault)?)
 }
 
 /// Writes a program that begins as a text does, or tells why there is none: the text itself where its tokens mean one.
@@ -90,7 +68,7 @@ pub(crate) fn complete_text(
     let Named { name, text } = named;
     match read_program(alloc, text) {
         Err(TextError::Refused { refusal, line }) => match refusal {
-            TextRefusal::Fault(fault) => tell_fault(told, alloc, named, fault, line),
+            TextRefusal::Fault(fault) => tell(told, name, told_of_fault(alloc, named, fault, line)),
             TextRefusal::NoProgram => write_completion(out, told, alloc, name, text),
             TextRefusal::Violated(_) => write_text(out, text),
         },
