@@ -1371,6 +1371,16 @@ grep -v 'more [ew]' gcc.told | python3 -c 'import re, sys
 pattern = re.compile(r"^(.*?):(\d+):(\d*):?\s+(?:fatal\s+)?(warning|error):\s+(.*)$")
 sys.stdout.writelines(line for line in sys.stdin if not pattern.match(line.rstrip("\n")))' >report
 check "lines that editors match" 0 "" ""
+# So they are for Vim, by the compiler gcc that comes with it, where it is here.
+if vim --version 2>/dev/null | grep -q '+quickfix' && compgen -G '/usr/share/vim/vim*/compiler/gcc.vim' >/dev/null; then
+    vim -u NONE -i NONE -N -es -c 'compiler gcc' -c 'cgetfile gcc.told' \
+        -c 'let found = filter(getqflist(), {at, line -> line.valid})' \
+        -c 'let words = {"e": "error", "w": "warning"}' \
+        -c 'call writefile(map(found, {at, line -> line.lnum .. ":" .. line.col .. ": " .. words[line.type] .. ": " .. line.text}), "vim.told")' -c 'qa!'
+    grep -v 'more [ew]' gcc.told | sed 's/^[^:]*://' | diff - vim.told >report 2>&1
+    status=$?
+    check "lines that Vim reads" 0 "" ""
+fi
 "$oscheck" --help >help 2>report
 status=$?
 : >out
