@@ -1375,8 +1375,8 @@ check "lines that editors match" 0 "" ""
 if vim --version 2>/dev/null | grep -q '+quickfix' && compgen -G '/usr/share/vim/vim*/compiler/gcc.vim' >/dev/null; then
     vim -u NONE -i NONE -N -es -c 'compiler gcc' -c 'cgetfile gcc.told' \
         -c 'let found = filter(getqflist(), {at, line -> line.valid})' \
-        -c 'let words = {"e": "error", "w": "warning"}' \
-        -c 'call writefile(map(found, {at, line -> line.lnum .. ":" .. line.col .. ": " .. words[line.type] .. ": " .. line.text}), "vim.told")' -c 'qa!'
+        -c 'let g:words = {"e": "error", "w": "warning"}' \
+        -c 'call writefile(map(found, {at, line -> line.lnum .. ":" .. line.col .. ": " .. g:words[line.type] .. ": " .. line.text}), "vim.told")' -c 'qa!'
     grep -v 'more [ew]' gcc.told | sed 's/^[^:]*://' | diff - vim.told >report 2>&1
     status=$?
     check "lines that Vim reads" 0 "" ""
