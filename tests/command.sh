@@ -1399,6 +1399,18 @@ if [ "$most" != 0 ]; then
     check "no memory for the words of a judge" 2 "" "memory ran out"
     judge_without 20 first.c empty.c
     check "no memory for a file that is judged" 2 "" "first.c: memory ran out / empty.c:1: error 23: no function main of type int without parameters: write int main(void)"
+    # SARIF is whole, or nothing of it is written.
+    : >halves
+    for number in $(seq 2 15 452); do
+        LD_PRELOAD=$work/failing_allocation.so FAILING_ALLOCATION=$number "$oscheck_program" --format=sarif spare.c first.c >told 2>report
+        status=$?
+        echo "memory ran out" >wanted
+        [ "$status" = 0 ] || [ -s told ] || cmp -s report wanted || echo "allocation $number: nothing told" >>halves
+        [ ! -s told ] || "$top/tests/sarif.py" "$(cat "$top/VERSION")" <told >/dev/null 2>&1 || echo "allocation $number: no SARIF" >>halves
+    done
+    mv halves report
+    status=0
+    check "no memory for SARIF" 0 "" ""
 fi
 # stops NAME TEXT WANTED: compares the first line that is told of a text that is no program.
 stops() {

@@ -255,6 +255,15 @@ fn end(rt: &HostRuntime, state: &WordsSoFar) -> io::Result<Judged> {
     Ok(state.worst)
 }
 
+/// Tells that memory ran out for a word of the call: not where SARIF is written, which nothing else may stand beside.
+fn tell_no_words(rt: &HostRuntime, format: Format) -> io::Result<Judged> {
+    if format == Format::Sarif {
+        return Err(io::ErrorKind::OutOfMemory.into());
+    }
+    writeln!(rt.stdout(), "memory ran out")?;
+    Ok(Judged::Unjudged)
+}
+
 /// Judges each file that the words name, or completes each, and goes on behind one that is refused or can't be judged.
 pub(crate) fn answer_all(rt: &HostRuntime) -> io::Result<Judged> {
     let mut state = WordsSoFar {
@@ -272,10 +281,7 @@ pub(crate) fn answer_all(rt: &HostRuntime) -> io::Result<Judged> {
         let word = match word_at(rt, rt.alloc(), number) {
             Ok(Some(word)) => word,
             Ok(None) => return end(rt, &state),
-            Err(Memory) => {
-                writeln!(rt.stdout(), "memory ran out")?;
-                return Ok(Judged::Unjudged);
-            }
+            Err(Memory) => return tell_no_words(rt, state.format),
         };
         if take_word(rt, &mut state, &word)? == Next::Stop {
             return Ok(state.worst);
