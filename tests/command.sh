@@ -1298,6 +1298,89 @@ tells "the first error" "1 / many.c:2:1: error 10: 'y' isn't declared here: decl
 tells "all errors" "44 / many.c:23:5: error 10: 'x' isn't declared here: declare it b" --all
 judges "a word that is no option" 2 "--al: no option, and no file that can be read / first.c: accepted" --al first.c
 judges "an option behind a file" 2 "first.c: accepted / --version: no option, and no file that can be read" first.c --version
+# What editors read: the same errors and warnings as gcc writes them, and as SARIF.
+spare="spare.c:2:9: warning: nothing uses 'spare': take it out [unused-name]"
+no_main="no function main of type int without parameters: write int main(void) [error-23]"
+judges "an error at no token as gcc writes it, behind an accepted file" 1 "empty.c:1:1: error: $no_main" --format=gcc first.c empty.c
+judges "a warning as gcc writes it" 0 "$spare" --format=gcc spare.c first.c
+judges "a warning that is an error, as gcc writes it" 1 "$spare / spare.c: refused for its warnings" --format=gcc --werror spare.c
+judges "a file that can't be read, as gcc writes it" 2 "none.c: can't be read / $spare" --format=gcc none.c spare.c
+judges "standard input as gcc writes it" 0 "${spare/spare.c//dev/stdin}" --format=gcc /dev/stdin <spare.c
+judges "the format without the word, by its name" 0 "$warned / spare.c: accepted" --format=text spare.c
+judges "the last of two formats" 0 "$spare" --format=sarif --format=gcc spare.c
+formats="there are --format=text, --format=gcc and --format=sarif"
+judges "a format that there isn't" 2 "--format=xml: $formats" --format=xml first.c
+judges "a format without its name" 2 "--format: $formats" --format gcc first.c
+judges "a format of programs that are written" 2 "--format is of no use with --complete, which writes programs" --format=gcc --complete first.c
+judges "programs that are written, in a format" 2 "--format is of no use with --complete, which writes programs" --complete --format=sarif first.c
+# sarif NAME STATUS WANTED WORD..: judges files, and compares what is read in the SARIF that is written, with each finding as gcc writes it.
+sarif() {
+    "$oscheck" --format=sarif "${@:4}" >told 2>report
+    status=$?
+    "$top/tests/sarif.py" "$(cat "$top/VERSION")" <told >>report 2>&1
+    : >out
+    check "$1" "$2" "" "$3"
+}
+sarif "accepted files as SARIF" 0 "" first.c first.c
+sarif "an error at no token as SARIF" 1 "empty.c:1:1: error: $no_main" first.c empty.c
+sarif "a warning that is an error, as SARIF" 1 "$spare / spare.c: refused for its warnings" --werror spare.c
+sarif "files that can't be read, as SARIF" 2 "$spare / none.c: can't be read / --al: no option, and no file that can be read" spare.c none.c --al
+sarif "standard input as SARIF" 0 "${spare/spare.c//dev/stdin}" /dev/stdin <spare.c
+sarif "the first error as SARIF" 1 "many.c:2:1: error: 'y' isn't declared here: declare it before, in a scope that is still open [error-10]" --first many.c
+odd="it's \"so\" <100%> \\ [ä]#?.c"
+cp spare.c "$odd"
+judges "a name with blanks and quotes as gcc writes it" 0 "${spare/spare.c/$odd}" --format=gcc "$odd"
+sarif "a name with blanks and quotes as SARIF" 0 "${spare/spare.c/$odd}" "$odd"
+sarif "a name from the root on as SARIF" 0 "${spare/spare.c/$PWD/$odd}" "$PWD/$odd"
+cp spare.c "$strange"
+sarif "a name that isn't text, as SARIF" 2 "in\\xff\\t.c: its name isn't text" "$strange"
+rm "$odd" "$strange"
+printf '/* \303\244 */ int main(void) { /* \377\001\342\202\254 */ x = 1; }\n' >bytes.c
+undeclared="error: 'x' isn't declared here: declare it before, in a scope that is still open [error-10]"
+judges "a column in bytes as gcc writes it" 1 "bytes.c:1:39: $undeclared" --format=gcc bytes.c
+sarif "a column in characters as SARIF" 1 "bytes.c:1:36: $undeclared" bytes.c
+printf 'int main(void) { \377 }\n' >bytes.c
+sarif "a byte that is no character, as SARIF" 1 "bytes.c:1:18: error: a byte begins no token: take it out [error-1]" bytes.c
+printf 'int main(void) { \001 }\n' >bytes.c
+sarif "a control character as SARIF" 1 "bytes.c:1:18: error: '$(printf '\001')' begins no token: take it out [error-1]" bytes.c
+head -c 262145 /dev/zero | tr '\0' ' ' >long.c
+judges "a text that is too long, as gcc writes it" 1 "long.c:1:1: error: a text has at most 262144 bytes [too-long]" --format=gcc long.c
+sarif "a text that is too long, as SARIF" 1 "long.c:1:1: error: a text has at most 262144 bytes [too-long]" long.c
+# All three formats tell the same of many files: the text for people, put into the words of gcc but for the names of warnings.
+# plain: the lines of findings in the text for people, as gcc writes them without the names of checks.
+plain() {
+    grep -E '^[^ ]*:[0-9:]+ (error [0-9]+|warning): |more (error|warning)' | sed -E 's/^([^:]*:[0-9]+): error/\1:1: error/; s/: error [0-9]+: /: error: /'
+}
+mapfile -t ascii < <(cd "$top" && LC_ALL=C grep -L '[^ -~[:space:]]' tests/told/*.c examples/*.c)
+for words in "" --first --all; do
+    judged=(${words:+"$words"} "${ascii[@]}" "$work/many.c" "$work/spares.c")
+    (cd "$top" && "$oscheck" "${judged[@]}") 2>&1 | plain >plain.told
+    (cd "$top" && "$oscheck" --format=gcc "${judged[@]}") >gcc.told 2>&1
+    (cd "$top" && "$oscheck" --format=sarif "${judged[@]}") | "$top/tests/sarif.py" "$(cat "$top/VERSION")" >sarif.told 2>&1
+    grep -v 'more [ew]' gcc.told >wanted
+    grep 'more [ew]' gcc.told >>wanted
+    diff wanted sarif.told >report
+    sed -E 's/ \[[a-z]+(-[a-z0-9]+)*\]$//' gcc.told | diff plain.told - >>report
+    [ "$(wc -l <plain.told)" -gt 100 ] || echo "fewer than there are" >>report
+    : >out
+    status=0
+    check "three formats of the same errors and warnings, by ${words:-twenty}" 0 "" ""
+done
+# Each line of an error or a warning is one for VS Code's matcher of gcc, as the C/C++ extension has it.
+grep -v 'more [ew]' gcc.told | python3 -c 'import re, sys
+pattern = re.compile(r"^(.*?):(\d+):(\d*):?\s+(?:fatal\s+)?(warning|error):\s+(.*)$")
+sys.stdout.writelines(line for line in sys.stdin if not pattern.match(line.rstrip("\n")))' >report
+check "lines that editors match" 0 "" ""
+# So they are for Vim, by the compiler gcc that comes with it, where it is here.
+if vim --version 2>/dev/null | grep -q '+quickfix' && compgen -G '/usr/share/vim/vim*/compiler/gcc.vim' >/dev/null; then
+    vim -u NONE -i NONE -N -es -c 'compiler gcc' -c 'cgetfile gcc.told' \
+        -c 'let found = filter(getqflist(), {at, line -> line.valid})' \
+        -c 'let g:words = {"e": "error", "w": "warning"}' \
+        -c 'call writefile(map(found, {at, line -> line.lnum .. ":" .. line.col .. ": " .. g:words[line.type] .. ": " .. line.text}), "vim.told")' -c 'qa!'
+    grep -v 'more [ew]' gcc.told | sed 's/^[^:]*://' | diff - vim.told >report 2>&1
+    status=$?
+    check "lines that Vim reads" 0 "" ""
+fi
 "$oscheck" --help >help 2>report
 status=$?
 : >out
@@ -1316,6 +1399,18 @@ if [ "$most" != 0 ]; then
     check "no memory for the words of a judge" 2 "" "memory ran out"
     judge_without 20 first.c empty.c
     check "no memory for a file that is judged" 2 "" "first.c: memory ran out / empty.c:1: error 23: no function main of type int without parameters: write int main(void)"
+    # SARIF is whole, or nothing of it is written.
+    : >halves
+    for number in $(seq 2 15 452); do
+        LD_PRELOAD=$work/failing_allocation.so FAILING_ALLOCATION=$number "$oscheck_program" --format=sarif spare.c first.c >told 2>report
+        status=$?
+        echo "memory ran out" >wanted
+        [ "$status" = 0 ] || [ -s told ] || cmp -s report wanted || echo "allocation $number: nothing told" >>halves
+        [ ! -s told ] || "$top/tests/sarif.py" "$(cat "$top/VERSION")" <told >/dev/null 2>&1 || echo "allocation $number: no SARIF" >>halves
+    done
+    mv halves report
+    status=0
+    check "no memory for SARIF" 0 "" ""
 fi
 # stops NAME TEXT WANTED: compares the first line that is told of a text that is no program.
 stops() {

@@ -1,5 +1,5 @@
 #!/usr/bin/env python3
-"""tests/lines.py: runs each command line of README.md, docs/GUIDE.md, examples/README.md and examples/many/README.md as it stands there.
+"""tests/lines.py: runs each command line of README.md, docs/GUIDE.md, docs/EDITOR.md, examples/README.md and examples/many/README.md as it stands there.
 
 A command line is a line of a block marked `sh`, or what stands in a line of text between backquotes and begins with the name of a program. Each
 block runs in a folder with the examples, the tests and the programs, and with files of the names that the lines use: INPUT, PROGRAM and so on,
@@ -14,7 +14,7 @@ import tempfile
 
 from programs import TOP, called
 
-PAGES = ["README.md", "docs/GUIDE.md", "examples/README.md", "examples/many/README.md"]
+PAGES = ["README.md", "docs/GUIDE.md", "docs/EDITOR.md", "examples/README.md", "examples/many/README.md"]
 PROGRAMS = ("osrun", "oscheck", "osview", "ospack")
 
 # Lines that aren't run: what they do is told beside them, and begins with these words.

@@ -4,11 +4,15 @@ ghost use Rattle.std.specs.Prelude.{◌≤◌, length};
 ghost use Rattle.os_lexer.specs.Limits.{text_limit};
 
 use crate::completion::completion;
+use crate::errors::fault_found;
 use crate::judged::Judged;
-use crate::judging::tell_fault;
-use crate::telling::{Named, tell_no_memory};
+use crate::judging::Named;
+use crate::reports::of_one;
+use crate::telling::{Told, tell, tell_no_memory, told_by};
 use front_end::{TEXT_LIMIT, TextError, TextRefusal, read_program};
 use os_io::Memory;
+use os_lexer::Fault;
+use oscheck_reports::Format;
 use std::alloc::Global;
 use std::io;
 
@@ -44,6 +48,14 @@ fn write_text(out: &mut impl io::Write, text: &[u8]) -> io::Result<Judged> {
     Ok(Judged::Accepted)
 }
 
+/// What is told of the first fault of the bytes of a text.
+fn told_of_fault(alloc: Global, named: Named<'_>, fault: Fault, line: u32) -> Result<Told, Memory>
+    requires { length named.text.now ≤ text_limit }
+{
+    let fault = fault_found(alloc, named.text, fault, line)?;
+    told_by(alloc, Format::Text, &of_one(alloc, named.name, fault)?)
+}
+
 /// Writes a program that begins as a text does, or tells why there is none: the text itself where its tokens mean one.
 pub(crate) fn complete_text(
     out: &mut impl io::Write,
@@ -56,7 +68,7 @@ pub(crate) fn complete_text(
     let Named { name, text } = named;
     match read_program(alloc, text) {
         Err(TextError::Refused { refusal, line }) => match refusal {
-            TextRefusal::Fault(fault) => tell_fault(told, alloc, named, fault, line),
+            TextRefusal::Fault(fault) => tell(told, name, told_of_fault(alloc, named, fault, line)),
             TextRefusal::NoProgram => write_completion(out, told, alloc, name, text),
             TextRefusal::Violated(_) => write_text(out, text),
         },

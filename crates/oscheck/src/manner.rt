@@ -1,3 +1,6 @@
+ghost use Rattle.std.specs.Prelude.{◌≡◌};
+ghost use Rattle.oscheck.specs.Reports.{more_of, most_of};
+
 /// How many errors of a file are told, and how many warnings.
 #[derive(Clone, Copy, PartialEq, Eq)]
 pub(crate) enum Extent {
@@ -9,7 +12,9 @@ pub(crate) enum Extent {
 
 impl Extent {
     /// How many are told at most.
-    pub(crate) fn most(self) -> usize {
+    pub(crate) fn most(self) -> usize
+        ensures { result ≡ most_of self }
+    {
         match self {
             Extent::First => 1,
             Extent::Some => 20,
@@ -18,7 +23,9 @@ impl Extent {
     }
 
     /// How many of `count` errors or warnings are not told; 0 for `First`, where this isn't said.
-    pub(crate) fn more(self, count: usize) -> usize {
+    pub(crate) fn more(self, count: usize) -> usize
+        ensures { result ≡ more_of self count }
+    {
         match self {
             Extent::First => 0,
             Extent::Some | Extent::All => count.saturating_sub(self.most()),

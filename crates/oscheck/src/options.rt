@@ -1,9 +1,10 @@
 //! What the words before the files ask for.
 
+use oscheck_reports::Format;
 use std::io;
 
-/// What `--version` tells: the version in the file VERSION of the repository.
-const VERSION: &str = "oscheck 1.0.0";
+/// The version in the file VERSION of the repository.
+pub(crate) const VERSION: &str = "1.0.0";
 
 /// What is told where no file is named, or help is asked for.
 const HELP: &str = "\
@@ -13,6 +14,9 @@ oscheck judges OpenStream programs as a compiler does. Nothing is run.
     oscheck --first FILE ..      tells the first error or warning of each file alone
     oscheck --all FILE ..        tells all of them; else it is twenty at most, and how many more there are
     oscheck --werror FILE ..     refuses what is warned of too
+    oscheck --format=gcc FILE .. writes a line for each error or warning, as gcc does, for editors
+    oscheck --format=sarif FILE ..
+                                 writes SARIF 2.1.0, which is JSON; --format=text is the format without the word
     oscheck --complete FILE ..   writes a program for each file: the text itself, or one that begins as it does
     oscheck --help               tells this
     oscheck --version            tells the version
@@ -31,6 +35,10 @@ pub(crate) enum Request {
     All,
     /// Warnings are errors.
     Werror,
+    /// What is found is written so.
+    Format(Format),
+    /// A format that there isn't.
+    NoFormat,
     Help,
     Version,
 }
@@ -42,8 +50,12 @@ pub(crate) fn option_of(word: &str) -> Option<Request> {
         "--first" => Some(Request::First),
         "--all" => Some(Request::All),
         "--werror" => Some(Request::Werror),
+        "--format=text" => Some(Request::Format(Format::Text)),
+        "--format=gcc" => Some(Request::Format(Format::Gcc)),
+        "--format=sarif" => Some(Request::Format(Format::Sarif)),
         "--help" => Some(Request::Help),
         "--version" => Some(Request::Version),
+        _ if word == "--format" || word.starts_with("--format=") => Some(Request::NoFormat),
         _ => None,
     }
 }
@@ -55,5 +67,22 @@ pub(crate) fn tell_help(out: &mut impl io::Write) -> io::Result<()> {
 
 /// Tells the version.
 pub(crate) fn tell_version(out: &mut impl io::Write) -> io::Result<()> {
-    writeln!(out, "{VERSION}")
+    writeln!(out, "oscheck {VERSION}")
+}
+
+/// Tells why a word asks for no format.
+pub(crate) fn tell_no_format(out: &mut impl io::Write, word: &[u8]) -> io::Result<()> {
+    let escaped = word.escape_ascii();
+    writeln!(
+        out,
+        "{escaped}: there are --format=text, --format=gcc and --format=sarif"
+    )
+}
+
+/// Tells that two words don't go together.
+pub(crate) fn tell_no_use(out: &mut impl io::Write) -> io::Result<()> {
+    writeln!(
+        out,
+        "--format is of no use with --complete, which writes programs"
+    )
 }

@@ -1,26 +1,29 @@
 //! What an accepted program is warned of.
 
-ghost use Rattle.std.specs.Prelude.{◌<◌, ◌≤◌, length, IfOk};
+ghost use Rattle.std.specs.Prelude.{◌≡◌, ◌<◌, ◌≤◌, ◌+◌, ◌↔◌, ℕ, IsTrue, Option, Some, IfOk, IfSome, IfNone, OnOk, length, string_bytes, take};
+ghost use Rattle.std.specs.List.{slice_get};
+ghost use Rattle.front_end.specs.Texts.{IsAccepted};
+ghost use Rattle.os_ast.specs.Trees.{ProgramTree};
 ghost use Rattle.os_ast.specs.Views.{program_tree};
+ghost use Rattle.os_ast.specs.declared.names.What.{What};
+ghost use Rattle.os_lexer.specs.Cover.{IsTokenCover};
 ghost use Rattle.os_lexer.specs.Limits.{text_limit};
-ghost use Rattle.os_lexer.specs.Names.{input_id, output_id};
-ghost use Rattle.oscheck_warnings.specs.Accesses.{accesses};
-ghost use Rattle.oscheck_warnings.specs.Bursts.{AreWrongBursts};
-ghost use Rattle.oscheck_warnings.specs.DeadStores.{AreDeadStores};
-ghost use Rattle.oscheck_warnings.specs.Extents.{extents};
+ghost use Rattle.oscheck.specs.Findings.{EachTold};
+ghost use Rattle.oscheck.specs.Marks.{MarkPlaces, MarkTokens};
+ghost use Rattle.oscheck.specs.Reports.{IsReportOn, accepted_notes, verdict};
+ghost use Rattle.oscheck.specs.Warned.{AreWarned, Holds, IsFirst, IsIdle, IsOctalAt, IsWarningOf, all_warnings, kind_of};
+ghost use Rattle.oscheck_reports.specs.declared.warning.Warning.{Warning as AnyWarning};
 ghost use Rattle.oscheck_warnings.specs.Meanings.{meaning_at};
-ghost use Rattle.oscheck_warnings.specs.OpenEnds.{AreOpenEnds};
-ghost use Rattle.oscheck_warnings.specs.Streams.{AreInClauses};
-ghost use Rattle.oscheck_warnings.specs.Warnings.{AreRepeated};
-ghost use Rattle.oscheck_warnings.specs.WindowSizes.{AreWrongSizes};
 
-use crate::judged::Judged;
+use crate::found::found_at;
+use crate::judging::Named;
 use crate::manner::{Extent, Manner, Strictness};
-use crate::telling::{Named, show, tell_more, tell_no_memory};
+use crate::reports::more_notes;
 use os_io::Memory;
 use os_lexer::names::{INPUT, OUTPUT};
-use os_lexer::{Kind, LexError, Token, lex};
-use oscheck_places::{Spot, column};
+use os_lexer::{Kind, Token, lex};
+use oscheck_places::Spot;
+use oscheck_reports::{Check, Finding, Note, Report, Severity, Warning as WarningCheck};
 use oscheck_sentences::{Word, word_of};
 use oscheck_warnings::{
     Places, dead_stores, is_bare_task, is_empty_body, is_left_out, is_lone_name, is_octal,
@@ -51,6 +54,25 @@ enum Warning {
     EmptyBody,
     /// It is a number whose digits are octal, with this value.
     Octal(u32),
+}
+
+impl Warning {
+    /// Which check it is an instance of.
+    fn kind(self) -> WarningCheck
+        ensures { result ≡ kind_of self }
+    {
+        match self {
+            Warning::BareTask => WarningCheck::BareTask,
+            Warning::LoneName => WarningCheck::LoneName,
+            Warning::Stream(_) => WarningCheck::IdleStream,
+            Warning::DeadStore => WarningCheck::DeadStore,
+            Warning::WrongBurst => WarningCheck::WrongBurst,
+            Warning::WrongSize => WarningCheck::WrongSize,
+            Warning::OpenEnd => WarningCheck::OpenEnd,
+            Warning::EmptyBody => WarningCheck::EmptyBody,
+            Warning::Octal(_) => WarningCheck::Octal,
+        }
+    }
 }
 
 /// What tasks don't do with a stream.
@@ -96,111 +118,237 @@ struct Uses {
 
 /// What the names of a program are used for.
 fn uses_of(alloc: Global, tokens: &[Token], checked: &Checked) -> Result<Uses, Memory>
-    requires few { length tokens.now ≤ text_limit }
-    ensures repeated { IfOk result (λ uses. AreRepeated tokens.now uses.repeated.items) }
-    ensures read { IfOk result (λ uses. AreInClauses tokens.now input_id uses.read.items) }
-    ensures written { IfOk result (λ uses. AreInClauses tokens.now output_id uses.written.items) }
-    ensures dead { IfOk result (λ uses. AreDeadStores (accesses (program_tree checked.now.program)) (meaning_at checked.now.names) uses.dead) }
-    ensures wrong { IfOk result (λ uses. AreWrongBursts (extents (meaning_at checked.now.names) (program_tree checked.now.program))
-        (meaning_at checked.now.names) uses.wrong) }
-    ensures sizes { IfOk result (λ uses. AreWrongSizes (extents (meaning_at checked.now.names) (program_tree checked.now.program))
-        (meaning_at checked.now.names) uses.sizes) }
-    ensures open_ends { IfOk result (λ uses. AreOpenEnds (program_tree checked.now.program) uses.open_ended) }
+    requires { length tokens.now ≤ text_limit }
+    ensures tokens { IfOk result (MarkTokens tokens.now) }
+    ensures places { IfOk result (MarkPlaces (program_tree checked.now.program) (meaning_at checked.now.names)) }
 {
+    let repeated = repeated_names(alloc, tokens)?;
+    let read = names_in_clauses(alloc, tokens, INPUT)?;
+    let written = names_in_clauses(alloc, tokens, OUTPUT)?;
+    let dead = dead_stores(alloc, &checked.program, checked.names.as_slice())?;
+    let wrong = wrong_bursts(alloc, &checked.program, checked.names.as_slice())?;
+    let sizes = wrong_sizes(alloc, &checked.program, checked.names.as_slice())?;
+    let open_ended = open_ended(alloc, &checked.program)?;
     Ok(Uses {
-        repeated: repeated_names(alloc, tokens)?,
-        read: names_in_clauses(alloc, tokens, INPUT)?,
-        written: names_in_clauses(alloc, tokens, OUTPUT)?,
-        dead: dead_stores(alloc, &checked.program, checked.names.as_slice())?,
-        wrong: wrong_bursts(alloc, &checked.program, checked.names.as_slice())?,
-        sizes: wrong_sizes(alloc, &checked.program, checked.names.as_slice())?,
-        open_ended: open_ended(alloc, &checked.program)?,
+        repeated,
+        read,
+        written,
+        dead,
+        wrong,
+        sizes,
+        open_ended,
     })
 }
 
-/// What tasks don't do with a stream that is declared at a place.
-fn lack_at(tokens: &[Token], uses: &Uses, place: usize) -> Option<Lack>
+/// Whether tasks don't read, or don't write, the stream that is declared at a place.
+fn is_idle(tokens: &[Token], uses: &Uses, place: usize) -> bool
     requires within { place < length tokens.now }
     requires few { length tokens.now ≤ text_limit }
-    requires read { AreInClauses tokens.now input_id uses.now.read.items }
-    requires written { AreInClauses tokens.now output_id uses.now.written.items }
+    requires marks { MarkTokens tokens.now uses.now }
+    ensures { IsTrue result ↔ IsIdle tokens.now place }
+{
+    is_left_out(tokens, INPUT, &uses.read, place)
+        || is_left_out(tokens, OUTPUT, &uses.written, place)
+}
+
+/// What tasks don't do with a stream that is declared at a place, and with which they don't do all.
+fn lack_at(tokens: &[Token], uses: &Uses, place: usize) -> Lack
+    requires within { place < length tokens.now }
+    requires few { length tokens.now ≤ text_limit }
+    requires marks { MarkTokens tokens.now uses.now }
 {
     match (
         is_left_out(tokens, INPUT, &uses.read, place),
         is_left_out(tokens, OUTPUT, &uses.written, place),
     ) {
-        (true, true) => Some(Lack::Both),
-        (true, false) => Some(Lack::Reads),
-        (false, true) => Some(Lack::Writes),
-        (false, false) => None,
+        (true, true) => Lack::Both,
+        (true, false) => Lack::Reads,
+        _ => Lack::Writes,
     }
+}
+
+/// The value of a number.
+fn value_of(token: Token) -> u32 {
+    match token.kind {
+        Kind::Number(value) | Kind::Wide(value) => value,
+        _ => 0,
+    }
+}
+
+/// Whether a number stands at a place whose digits are octal.
+fn is_octal_at(text: &[u8], tokens: &[Token], place: usize) -> bool
+    ensures { IsTrue result ↔ IsOctalAt text.now tokens.now place }
+{
+    match tokens.get(place) {
+        Some(token) => is_octal(text, *token),
+        None => false,
+    }
+}
+
+/// Whether there is this to warn of at a place.
+fn holds(check: WarningCheck, text: &[u8], tokens: &[Token], uses: &Uses, place: usize) -> bool
+    requires within { place < length tokens.now }
+    requires few { length tokens.now ≤ text_limit }
+    requires marks { MarkTokens tokens.now uses.now }
+    ensures { (p : ProgramTree) (means : ℕ → Option What) → MarkPlaces p means uses.now
+        → IsTrue result ↔ Holds text.now tokens.now p means check place }
+{
+    match check {
+        WarningCheck::BareTask => is_bare_task(tokens, place),
+        WarningCheck::LoneName => is_lone_name(tokens, &uses.repeated, place),
+        WarningCheck::IdleStream => is_idle(tokens, uses, place),
+        WarningCheck::DeadStore => uses.dead.has(place as u32),
+        WarningCheck::WrongBurst => uses.wrong.has(place as u32),
+        WarningCheck::WrongSize => uses.sizes.has(place as u32),
+        WarningCheck::OpenEnd => uses.open_ended.has(place as u32),
+        WarningCheck::EmptyBody => is_empty_body(tokens, place),
+        WarningCheck::Octal => is_octal_at(text, tokens, place),
+    }
+}
+
+/// All that there may be to warn of: at a place the first that holds is told.
+fn all_warnings() -> &'static [WarningCheck]
+    ensures { result.now ≡ all_warnings }
+{
+    &[
+        WarningCheck::BareTask,
+        WarningCheck::LoneName,
+        WarningCheck::IdleStream,
+        WarningCheck::DeadStore,
+        WarningCheck::WrongBurst,
+        WarningCheck::WrongSize,
+        WarningCheck::OpenEnd,
+        WarningCheck::EmptyBody,
+        WarningCheck::Octal,
+    ]
+}
+
+/// What is told of a place.
+fn first_at(text: &[u8], tokens: &[Token], uses: &Uses, place: usize) -> Option<WarningCheck>
+    requires within { place < length tokens.now }
+    requires few { length tokens.now ≤ text_limit }
+    requires marks { MarkTokens tokens.now uses.now }
+    ensures some { (p : ProgramTree) (means : ℕ → Option What) → MarkPlaces p means uses.now
+        → IfSome result (IsFirst text.now tokens.now p means place) }
+    ensures none { (p : ProgramTree) (means : ℕ → Option What) → MarkPlaces p means uses.now
+        → IfNone result ((check : AnyWarning) → Holds text.now tokens.now p means check place → ⊥) }
+{
+    let all = all_warnings();
+    for number in 0..all.len() {
+        let check = all[number];
+        if holds(check, text, tokens, uses, place) {
+            return Some(check);
+        }
+    }
+    None
+}
+
+/// What is told of a place, with what its sentence speaks of.
+fn warning_of(check: WarningCheck, tokens: &[Token], uses: &Uses, place: usize) -> Warning
+    requires within { place < length tokens.now }
+    requires few { length tokens.now ≤ text_limit }
+    requires marks { MarkTokens tokens.now uses.now }
+    ensures { kind_of result ≡ check }
+{
+    match check {
+        WarningCheck::BareTask => Warning::BareTask,
+        WarningCheck::LoneName => Warning::LoneName,
+        WarningCheck::IdleStream => Warning::Stream(lack_at(tokens, uses, place)),
+        WarningCheck::DeadStore => Warning::DeadStore,
+        WarningCheck::WrongBurst => Warning::WrongBurst,
+        WarningCheck::WrongSize => Warning::WrongSize,
+        WarningCheck::OpenEnd => Warning::OpenEnd,
+        WarningCheck::EmptyBody => Warning::EmptyBody,
+        WarningCheck::Octal => Warning::Octal(value_of(tokens[place])),
+    }
+}
+
+/// A token that is warned of, with its place among the tokens.
+#[derive(Clone, Copy)]
+pub(crate) struct Warned {
+    place: usize,
+    token: Token,
+    warning: Warning,
 }
 
 /// What there is to warn of at a place.
-fn warning_at(text: &[u8], tokens: &[Token], uses: &Uses, place: usize) -> Option<Warning>
+fn warned_at(text: &[u8], tokens: &[Token], uses: &Uses, place: usize) -> Option<Warned>
     requires within { place < length tokens.now }
     requires few { length tokens.now ≤ text_limit }
-    requires repeated { AreRepeated tokens.now uses.now.repeated.items }
-    requires read { AreInClauses tokens.now input_id uses.now.read.items }
-    requires written { AreInClauses tokens.now output_id uses.now.written.items }
+    requires marks { MarkTokens tokens.now uses.now }
+    ensures place { IfSome result (λ warned. warned.place ≡ place) }
+    ensures token { IfSome result (λ warned. slice_get tokens.now place ≡ Some warned.token) }
+    ensures some { (p : ProgramTree) (means : ℕ → Option What) → MarkPlaces p means uses.now
+        → IfSome result (λ warned. IsFirst text.now tokens.now p means place (kind_of warned.warning)) }
+    ensures none { (p : ProgramTree) (means : ℕ → Option What) → MarkPlaces p means uses.now
+        → IfNone result ((check : AnyWarning) → Holds text.now tokens.now p means check place → ⊥) }
 {
-    if is_bare_task(tokens, place) {
-        Some(Warning::BareTask)
-    } else if is_lone_name(tokens, &uses.repeated, place) {
-        Some(Warning::LoneName)
-    } else if let Some(lack) = lack_at(tokens, uses, place) {
-        Some(Warning::Stream(lack))
-    } else if uses.dead.has(place as u32) {
-        Some(Warning::DeadStore)
-    } else if uses.wrong.has(place as u32) {
-        Some(Warning::WrongBurst)
-    } else if uses.sizes.has(place as u32) {
-        Some(Warning::WrongSize)
-    } else if uses.open_ended.has(place as u32) {
-        Some(Warning::OpenEnd)
-    } else if is_empty_body(tokens, place) {
-        Some(Warning::EmptyBody)
-    } else {
-        octal_at(text, tokens[place])
+    match first_at(text, tokens, uses, place) {
+        Some(check) => Some(Warned {
+            place,
+            token: tokens[place],
+            warning: warning_of(check, tokens, uses, place),
+        }),
+        None => None,
     }
 }
 
-/// What there is to warn of a number whose digits are octal.
-fn octal_at(text: &[u8], token: Token) -> Option<Warning> {
-    match token.kind {
-        Kind::Number(value) | Kind::Wide(value) if is_octal(text, token) => {
-            Some(Warning::Octal(value))
-        }
-        _ => None,
+/// Adds what there is to warn of at a place.
+fn add_warned(
+    all: &mut Vec<Warned>,
+    text: &[u8],
+    tokens: &[Token],
+    uses: &Uses,
+    place: usize,
+) -> Result<(), Memory>
+    requires within { place < length tokens.now }
+    requires few { length tokens.now ≤ text_limit }
+    requires marks { MarkTokens tokens.now uses.now }
+    ensures { (p : ProgramTree) (means : ℕ → Option What) → MarkPlaces p means uses.now
+        → AreWarned text.now tokens.now p means place all.old.items
+        → OnOk result (AreWarned text.now tokens.now p means (place + 1) all.new.items) }
+{
+    if let Some(warned) = warned_at(text, tokens, uses, place) {
+        all.push(warned)?;
     }
+    Ok(())
 }
 
-/// Tells a warning: its place, what is wrong there, and the line with a mark under the token.
-fn tell_warning(
-    out: &mut impl io::Write,
+/// All that there is to warn of in a program.
+fn warned_in(
     alloc: Global,
-    named: Named<'_>,
-    token: Token,
-    warning: Warning,
-) -> io::Result<()> {
-    let spot = Spot::of_token(token);
-    tell_warned(out, named, spot)?;
+    text: &[u8],
+    tokens: &[Token],
+    uses: &Uses,
+) -> Result<Vec<Warned>, Memory>
+    requires few { length tokens.now ≤ text_limit }
+    requires marks { MarkTokens tokens.now uses.now }
+    ensures { (p : ProgramTree) (means : ℕ → Option What) → MarkPlaces p means uses.now
+        → IfOk result (λ all. AreWarned text.now tokens.now p means (length tokens.now) all.items) }
+{
+    let mut all = Vec::new(alloc);
+    for place in 0..tokens.len() {
+        add_warned(&mut all, text, tokens, uses, place)?;
+    }
+    Ok(all)
+}
+
+/// Writes what a warning says.
+fn tell_warning(out: &mut impl io::Write, word: Word<'_>, warning: Warning) -> io::Result<()> {
     match warning {
         Warning::BareTask => write!(
             out,
             "a task without clauses reads no stream and writes none: give it an item, or take it out"
-        )?,
-        Warning::LoneName => tell_lone(out, word_of(named.text, token))?,
-        Warning::Stream(lack) => tell_stream(out, lack, word_of(named.text, token))?,
-        Warning::DeadStore => tell_dead_store(out, word_of(named.text, token))?,
-        Warning::WrongBurst => tell_wrong_burst(out, word_of(named.text, token))?,
-        Warning::WrongSize => tell_wrong_size(out, word_of(named.text, token))?,
-        Warning::OpenEnd => tell_open_end(out, word_of(named.text, token))?,
-        Warning::EmptyBody => tell_empty_body(out, word_of(named.text, token))?,
-        Warning::Octal(value) => tell_octal(out, word_of(named.text, token), value)?,
+        ),
+        Warning::LoneName => tell_lone(out, word),
+        Warning::Stream(lack) => tell_stream(out, lack, word),
+        Warning::DeadStore => tell_dead_store(out, word),
+        Warning::WrongBurst => tell_wrong_burst(out, word),
+        Warning::WrongSize => tell_wrong_size(out, word),
+        Warning::OpenEnd => tell_open_end(out, word),
+        Warning::EmptyBody => tell_empty_body(out, word),
+        Warning::Octal(value) => tell_octal(out, word, value),
     }
-    show(out, alloc, named, spot)?;
-    Ok(())
 }
 
 /// Tells that nothing uses a name.
@@ -276,106 +424,97 @@ fn tell_octal(out: &mut impl io::Write, number: Word<'_>, value: u32) -> io::Res
     )
 }
 
-/// Tells the place of a warning, which its sentence goes on from.
-fn tell_warned(out: &mut impl io::Write, named: Named<'_>, spot: Spot) -> io::Result<()> {
-    let Named { name, text } = named;
-    let line = spot.line;
-    if spot.start > text.len() {
-        return write!(out, "{name}:{line}: warning: ");
-    }
-    let column = column(text, spot.start);
-    write!(out, "{name}:{line}:{column}: warning: ")
-}
-
-/// Tells the first warnings of a program and how many more there are, and says how many there are in all.
-fn tell_warnings(
-    out: &mut impl io::Write,
-    alloc: Global,
-    named: Named<'_>,
-    tokens: &[Token],
-    uses: &Uses,
-    extent: Extent,
-) -> io::Result<usize>
-    requires few { length tokens.now ≤ text_limit }
-    requires repeated { AreRepeated tokens.now uses.now.repeated.items }
-    requires read { AreInClauses tokens.now input_id uses.now.read.items }
-    requires written { AreInClauses tokens.now output_id uses.now.written.items }
+/// A warning at its token.
+fn warning_found(alloc: Global, text: &[u8], warned: Warned) -> Result<Finding, Memory>
+    ensures { IfOk result (IsWarningOf text.now warned) }
 {
-    let mut count: usize = 0;
-    for place in 0..tokens.len() {
-        if let Some(warning) = warning_at(named.text, tokens, uses, place) {
-            if count < extent.most() {
-                tell_warning(out, alloc, named, tokens[place], warning)?;
-            }
-            count = count.saturating_add(1);
+    let Warned { token, warning, .. } = warned;
+    let mut said = Vec::new(alloc);
+    match tell_warning(&mut said, word_of(text, token), warning) {
+        Ok(()) => {
+            let check = Check::Warning(warning.kind());
+            found_at(alloc, text, check, Spot::of_token(token), &said)
         }
+        Err(_) => Err(Memory),
     }
-    tell_more(out, named.name, extent.more(count), "warning")?;
-    Ok(count)
 }
 
-/// Tells what an accepted program is warned of, by its tokens, and says how many warnings there are.
-fn warn_of(
-    out: &mut impl io::Write,
+/// The first of some warnings, at most so many.
+fn warnings_found(
+    alloc: Global,
+    text: &[u8],
+    all: &[Warned],
+    most: usize,
+) -> Result<Vec<Finding>, Memory>
+    ensures { IfOk result (λ findings. EachTold (IsWarningOf text.now) (take most all.now) findings.items) }
+{
+    let mut findings = Vec::new(alloc);
+    for number in 0..all.len().min(most) {
+        findings.push(warning_found(alloc, text, all[number])?)?;
+    }
+    Ok(findings)
+}
+
+/// The note that a program with so many warnings is accepted, or that it isn't.
+fn verdict(count: usize, strictness: Strictness) -> Note
+    ensures { result ≡ verdict count strictness }
+{
+    if count > 0 && strictness == Strictness::Strict {
+        Note::RefusedForWarnings
+    } else {
+        Note::Accepted
+    }
+}
+
+/// The notes on a program with so many warnings.
+fn notes_on(alloc: Global, count: usize, manner: Manner) -> Result<Vec<Note>, Memory>
+    ensures { IfOk result (λ notes. notes.items ≡ accepted_notes manner count) }
+{
+    let mut notes = more_notes(alloc, Severity::Warning, manner.extent.more(count))?;
+    notes.push(verdict(count, manner.strictness))?;
+    Ok(notes)
+}
+
+/// A report on an accepted program, by its tokens.
+fn report_of_tokens(
     alloc: Global,
     named: Named<'_>,
     tokens: &[Token],
     checked: &Checked,
-    extent: Extent,
-) -> io::Result<Result<usize, Memory>>
-    requires { length tokens.now ≤ text_limit }
+    manner: Manner,
+) -> Result<Report, Memory>
+    requires few { length tokens.now ≤ text_limit }
+    requires cover { IsTokenCover named.text.now tokens.now }
+    requires accepted { IsAccepted named.text.now (program_tree checked.now.program) }
+    ensures name { IfOk result (λ report. string_bytes report.name ≡ named.entry.name.now) }
+    ensures report { IfOk result (IsReportOn named.entry.text.now manner) }
 {
-    match uses_of(alloc, tokens, checked) {
-        Ok(uses) => Ok(Ok(tell_warnings(out, alloc, named, tokens, &uses, extent)?)),
-        Err(Memory) => Ok(Err(Memory)),
-    }
+    let uses = uses_of(alloc, tokens, checked)?;
+    let all = warned_in(alloc, named.text, tokens, &uses)?;
+    let findings = warnings_found(alloc, named.text, &all, manner.extent.most())?;
+    let notes = notes_on(alloc, all.len(), manner)?;
+    let name = String::from_str(alloc, named.name)?;
+    Ok(Report {
+        name,
+        findings,
+        notes,
+    })
 }
 
-/// Tells what an accepted program is warned of, and says how many warnings there are.
-fn warn(
-    out: &mut impl io::Write,
-    alloc: Global,
-    named: Named<'_>,
-    checked: &Checked,
-    extent: Extent,
-) -> io::Result<Result<usize, Memory>>
-    requires { length named.text.now ≤ text_limit }
-{
-    match lex(alloc, named.text) {
-        Ok(tokens) => warn_of(out, alloc, named, &tokens, checked, extent),
-        Err(LexError::Memory) => Ok(Err(Memory)),
-        Err(_) => Ok(Ok(0)),
-    }
-}
-
-/// Tells the warnings of an accepted program, and that it is accepted, unless warnings are errors and there are some.
-pub(crate) fn tell_accepted(
-    out: &mut impl io::Write,
+/// A report on an accepted program: what it is warned of, and whether it is accepted for all that.
+pub(crate) fn accepted_report(
     alloc: Global,
     named: Named<'_>,
     checked: &Checked,
     manner: Manner,
-) -> io::Result<Judged>
-    requires { length named.text.now ≤ text_limit }
+) -> Result<Report, Memory>
+    requires few { length named.text.now ≤ text_limit }
+    requires accepted { IsAccepted named.text.now (program_tree checked.now.program) }
+    ensures name { IfOk result (λ report. string_bytes report.name ≡ named.entry.name.now) }
+    ensures report { IfOk result (IsReportOn named.entry.text.now manner) }
 {
-    let name = named.name;
-    match warn(out, alloc, named, checked, manner.extent)? {
-        Ok(count) => tell_verdict(out, name, count, manner.strictness),
-        Err(Memory) => tell_no_memory(out, name),
+    match lex(alloc, named.text) {
+        Ok(tokens) => report_of_tokens(alloc, named, &tokens, checked, manner),
+        Err(_) => Err(Memory),
     }
-}
-
-/// Tells that a program with `count` warnings is accepted, or that it isn't.
-fn tell_verdict(
-    out: &mut impl io::Write,
-    name: &str,
-    count: usize,
-    strictness: Strictness,
-) -> io::Result<Judged> {
-    if count > 0 && strictness == Strictness::Strict {
-        writeln!(out, "{name}: refused for its warnings")?;
-        return Ok(Judged::Refused);
-    }
-    writeln!(out, "{name}: accepted")?;
-    Ok(Judged::Accepted)
 }

@@ -1,5 +1,6 @@
 -- Lines of a text. A line is ended by a line feed, or by the end of the text.
-use Rattle.std.specs.Prelude.{◌≡◌, ◌≢◌, ℕ, ◌+◌, ◌-◌, ◌<◌, ◌≤◌, List, length, slice_index}
+use Rattle.std.specs.Prelude.{◌≡◌, ◌≢◌, ℕ, ◌+◌, ◌-◌, ◌<◌, ◌≤◌, Bool, List, [], ◌∷◌, length, slice_index, take, drop, if◌then◌else◌}
+use Rattle.std.specs.Int.{is_in_range}
 
 -- no line feed stands from one point up to another
 abbrev pub IsOneLine : List ℕ → ℕ → ℕ → Type 0
@@ -20,3 +21,24 @@ pub record IsColumn (text : List ℕ) (point column : ℕ) : Type 0 where
   pub within : start ≤ point
   pub one_line : IsOneLine text start point
   pub counted : column ≡ point - start + 1
+
+-- a byte goes on with a character of UTF-8 that began before it
+abbrev pub goes_on : ℕ → Bool
+goes_on byte = is_in_range 128 191 byte
+
+-- how many characters begin with a byte
+abbrev pub begun : ℕ → ℕ
+begun byte = if goes_on byte then 0 else 1
+
+-- how many begin among some bytes
+abbrev pub characters : List ℕ → ℕ
+characters [] = 0
+characters (byte ∷ bytes) = begun byte + characters bytes
+
+-- the column of a point in characters: how many of its line begin before it, and one more
+pub record IsCharacterColumn (text : List ℕ) (point column : ℕ) : Type 0 where
+  pub start : ℕ
+  pub begins : BeginsLine text start
+  pub within : start ≤ point
+  pub one_line : IsOneLine text start point
+  pub counted : column ≡ characters (take (point - start) (drop start text)) + 1

@@ -2,7 +2,7 @@
 
 ghost use Rattle.std.specs.Prelude.{◌≤◌, length};
 
-use crate::lines::{line_end, line_start};
+use crate::lines::{goes_on, line_end, line_start};
 use crate::spot::Spot;
 use os_io::Memory;
 use std::alloc::Global;
@@ -13,11 +13,6 @@ const SHOWN: usize = 160;
 
 /// How many of them stand before the marked ones at most.
 const BEFORE: usize = 120;
-
-/// Whether a byte goes on with a character that began before it.
-fn goes_on(byte: u8) -> bool {
-    (0x80..0xc0).contains(&byte)
-}
 
 /// What is shown of a byte. One that a terminal would obey is a blank, but for tabs; where the line isn't UTF-8, each byte
 /// beyond ASCII is a question mark.

@@ -1,0 +1,9 @@
+use Rattle.std.proofs.Common.{◌≡◌, take, map}
+use Rattle.std.specs.List.{flat_map}
+use Rattle.serde_json.specs.View.{view}
+use Rattle.oscheck_reports.specs.Sarif.{note_values}
+use Rattle.oscheck_reports.proofs.sarif.notifications.Given as goal
+
+-- the files so far were gone over
+abbrev pub invariant-loop-number : goal.invariant-loop-number
+invariant-loop-number l = map view l.values.items ≡ flat_map note_values (take l.number l.reports)
