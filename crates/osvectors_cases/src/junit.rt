@@ -2,7 +2,8 @@
 
 ghost use Rattle.std.specs.Prelude.{◌≡◌, ◌++◌, ◌^◌, ◌<◌, IfOk, OnOk, filter, length, map};
 ghost use Rattle.std.specs.List.{flat_map};
-ghost use Rattle.osvectors_cases.specs.Junit.{count_attribute, count_line, counts, junit_report, suite_head, text_attribute, xml_case, xml_head, xml_outcome, xml_problem};
+ghost use Rattle.osvectors_cases.specs.Junit.{count_attribute, count_line, counts, junit_report, suite_head, text_attribute};
+ghost use Rattle.osvectors_cases.specs.Junit.{xml_case, xml_head, xml_outcome, xml_problem};
 ghost use Rattle.osvectors_cases.specs.Reports.{has_outcome, row_of};
 
 use crate::escaping::add_xml;
