@@ -1,6 +1,6 @@
 # What ./build leaves beside a program, and ./install and ./release read: crates/NAME/out/NAME.built, with four lines: the commit, the kit, the sum
 # of what the program is made of and that of the program. They are SHA-256 sums. It is read by these scripts, which set `top`, the top of the repository.
-programs=(ospack oscc oscheck osrun osview)
+programs=(ospack oscc oscheck osrun osview osvectors)
 
 # crates_of NAME: the crates that a crate is made of, lowest first, with the crate itself: their lines in crates.txt name them.
 crates_of() {

@@ -1,7 +1,7 @@
 # Runs a program of the repository with the words given: the proved program, where ./build left it for the commit that is
 # checked out. Elsewhere the same program runs by the toolchain with run-time checks, and a line on standard error says so.
 # Statuses of its own: 69 where the toolchain is missing, 70 where it couldn't run the program.
-# It is read by ./osrun, ./oscheck, ./osview, ./oscc and ./ospack, which set `top`, the top of the repository, and `name`, the program.
+# It is read by ./osrun, ./oscheck, ./osview, ./osvectors, ./oscc and ./ospack, which set `top`, the top of the repository, and `name`, the program.
 program=$top/crates/$name/out/$name
 # A file that may grow no further fails the write then, and doesn't end the program: it has no call that says so itself.
 trap '' XFSZ

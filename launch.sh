@@ -1,6 +1,6 @@
 #!/bin/sh
 # Runs the proved program that has this file's name, out of libexec/osrun beside bin: ./install and ./release put this file there as
-# bin/osrun, bin/oscheck, bin/osview, bin/oscc and bin/ospack. A file that may grow no further fails the write then, and doesn't end the program,
+# bin/osrun, bin/oscheck, bin/osview, bin/osvectors, bin/oscc and bin/ospack. A file that may grow no further fails the write then, and doesn't end the program,
 # which has no call that says so itself.
 trap '' XFSZ
 here=$0

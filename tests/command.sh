@@ -1889,10 +1889,120 @@ unbuilt() {
 }
 [ -n "${OSRUN_BIN-}" ] || unbuilt
 
+# Cases of a file: which lines are cases, which of them pass, and what is told and reported of the others.
+vectors() {
+    (cd cases && "$osvectors" "$@") >out 2>report
+    status=$?
+}
+# tell NAME STATUS LINES REPORT: compares the last run with the status, the lines of the output, and the report.
+tell() {
+    printf '%s\n' "$3" >wanted
+    [ -n "$3" ] || : >wanted
+    agree "$1" "$2" wanted "$4"
+}
+mkdir cases
+cp "$top/examples/first.c" "$top/examples/in.bin" "$top/examples/waiting.c" cases/
+(cd cases && "$osrun" run first.c in.bin >right 2>/dev/null)
+head -c 2 cases/right >cases/short
+{ cat cases/right; printf x; } >cases/long
+{ head -c 2 cases/right; printf '\377'; tail -c +4 cases/right; } >cases/other
+sum=$(sha256sum <cases/right | cut -c -64)
+zeros=$(printf '%064d' 0)
+printf 'int x' >cases/bad.c
+cat >cases/divide.c <<'END'
+int main(void) {
+    int x, y;
+    #pragma omp task input(osin >> x) output(osout << y)
+    y = 1 / (x - x);
+}
+END
+cat >cases/turns.c <<'END'
+int main(void) {
+    int x, y;
+    #pragma omp task input(osin >> x) output(osout << y)
+    { y = 0; while (y < 9) y++; }
+}
+END
+printf '# remark\n\nfirst.c in.bin right\n  first.c\tin.bin sha256:%s --workers 1\nfirst.c in.bin sha256:%s\n' "$sum" "${sum^^}" >cases/good
+vectors good
+tell "cases that pass" 0 "3 of 3 passed" ""
+sed 's/$/\r/' cases/good >cases/carriage
+vectors carriage --jobs 1
+tell "cases in lines that end in CRLF" 0 "3 of 3 passed" ""
+printf 'first.c in.bin right\nfirst.c in.bin sha256:%s' "$sum" >cases/unended
+vectors unended
+tell "a last line without a line feed" 0 "2 of 2 passed" ""
+: >cases/empty
+vectors empty
+tell "no cases" 0 "0 of 0 passed" ""
+printf 'first.c in.bin %s\n' other short long "sha256:$zeros" >cases/wrong
+printf '%s\n' 'waiting.c in.bin right' 'divide.c in.bin right' 'turns.c in.bin right --budget 2' 'bad.c in.bin right' >>cases/wrong
+byte() { od -An -tu1 -j "$1" -N 1 "cases/right" | tr -d ' '; }
+vectors wrong --tap tap
+cp out told_by_four
+{
+    sed -n 1p out | grep -q "^wrong:1: first.c in.bin: byte 2 is $(byte 2), wanted 255; osout 2 $(byte 2) activation [0-9]* line 3\$" || echo "a byte"
+    sed -n 2p out | grep -q "^wrong:2: first.c in.bin: byte 2 is $(byte 2), wanted the end; osout 2 " || echo "a shorter one"
+    sed -n 3p out | grep -q "^wrong:3: first.c in.bin: byte $(wc -c <cases/right) is the end, wanted 120\$" || echo "a longer one"
+    sed -n 4p out | grep -q "^wrong:4: first.c in.bin: the output is sha256:$sum, bytes $(wc -c <cases/right)\$" || echo "a sum"
+    sed -n 5p out | grep -q "^wrong:5: waiting.c in.bin: status 1: starved 0 " || echo "one that starves"
+    sed -n 6p out | grep -q "^wrong:6: divide.c in.bin: status 1: trapped 0 code 2 line 4\$" || echo "one that traps"
+    sed -n 7p out | grep -q "^wrong:7: turns.c in.bin: status 1: over-budget 0\$" || echo "one over its budget"
+    sed -n 8p out | grep -q "^wrong:8: bad.c in.bin: status 3: refused " || echo "a program that is refused"
+} >>tellings
+tell_cases() {
+    if [ ! -s tellings ]; then passed=$((passed + 1)); else failed=$((failed + 1)); sed 's/^/what is told of cases: /' tellings; fi
+}
+tell_cases
+vectors wrong --jobs 1 --junit junit
+cp told_by_four wanted
+agree "the same of one job as of four" 1 wanted ""
+python3 - <<'END' >tellings
+import xml.etree.ElementTree as tree
+lines = open("cases/tap").read().split("\n")
+points = [line for line in lines if line.startswith(("ok ", "not ok "))]
+if lines[:2] != ["TAP version 13", "1..8"] or [line.split(" - ")[0].split()[-1] for line in points] != [str(n) for n in range(1, 9)]: print("TAP")
+root = tree.parse("cases/junit").getroot()
+cases = list(root.iter("testcase"))
+if (root.get("tests"), root.get("failures"), root.get("errors")) != ("8", "8", "0"): print("counts of JUnit")
+if [case.get("name").split(":")[0] for case in cases] != [str(n) for n in range(1, 9)]: print("names of JUnit")
+END
+tell_cases
+cp cases/first.c 'cases/a&<#>".c'
+printf 'a&<#>".c in.bin short\nmissing.c in.bin right\n' >cases/escaped
+vectors escaped --junit junit
+python3 -c '
+import xml.etree.ElementTree as tree
+cases = list(tree.parse("cases/junit").getroot().iter("testcase"))
+if cases[0].get("name") != "1: a&<#>\".c in.bin" or cases[1].find("error") is None: print("names in XML")' >tellings
+tell_cases
+vectors escaped --tap tap
+grep -qF 'not ok 1 - 1: a&<\#>".c in.bin' cases/tap && : >tellings || echo "names in TAP" >tellings
+tell_cases
+printf 'missing.c in.bin right\nfirst.c in.bin right\n' >cases/missing
+vectors missing
+tell "a file of a case that is missing" 5 "missing:1: missing.c in.bin: missing.c can't be read
+1 of 2 passed" ""
+vectors none
+tell "a missing file of cases" 5 "" "none: can't be read"
+for line in 'first.c in.bin' 'first.c in.bin sha256:12' "first.c in.bin sha256:${zeros}0" "first.c in.bin sha256:x${zeros:1}" \
+    'first.c in.bin right more' 'first.c in.bin right --workers 0' 'first.c in.bin right --budget' $'first.c in.bin \377'; do
+    printf 'first.c in.bin right\n# remark\n%s\nfirst.c\n' "$line" >cases/lines
+    vectors lines
+    tell "a line that is no case: ${line@Q}" 2 "" "lines:3: no case"
+done
+vectors good --tap none/tap
+tell "a report that can't be written" 6 "3 of 3 passed" "none/tap: can't be written"
+for words in '' 'good more' 'good --jobs 0' 'good --jobs 65' 'good --jobs' 'good --tap a --junit b' '--none' 'good --none x'; do
+    # shellcheck disable=SC2086
+    vectors $words
+    tell "words of osvectors: $words" 2 "" "usage: osvectors FILE [--jobs N] [--tap OUT | --junit OUT] | --help | --version"
+done
+
 # Each program that has --version tells that of the file VERSION, as the man pages and the changelog do; what people call tells commit and kit too, the same for all.
 version=$(cat "$top/VERSION")
 built='commit ([0-9a-f]{8}|none)( with changes)?, rattle-kit-[^ ]+ logic [0-9a-f]+'
-for name in oscheck osview oscc ospack; do
+for name in oscheck osview osvectors oscc ospack; do
     program=${name}_program
     "${!program}" --version >out 2>report
     status=$?

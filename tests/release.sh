@@ -25,7 +25,7 @@ is() {
 clone() {
     local program
     git clone -q "$top" "$work/$1"
-    for program in ospack oscheck osrun osview; do
+    for program in ospack oscc oscheck osrun osview osvectors; do
         mkdir -p "$work/$1/crates/$program/out"
         cp -p "$top/crates/$program/out/$program" "$top/crates/$program/out/$program.built" "$work/$1/crates/$program/out"
     done
