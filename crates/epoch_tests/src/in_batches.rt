@@ -1,4 +1,4 @@
-//! Runs in control order that several workers portion out.
+//! Runs of stretches, which several workers run in batches.
 
 ghost use Rattle.std.specs.Prelude.{◌≤◌};
 ghost use Rattle.flow_core_laws.specs.Limits.{workers_limit};
@@ -36,7 +36,7 @@ const PAIRS: &str = r"int main(void) {
 }
 ";
 
-/// As many, in threes: no power of two is a border between them.
+/// As many, in threes: no power of two is a border between them, so that batches read what others wrote.
 const THREES: &str = r"int main(void) {
     int s __attribute__((stream)), t __attribute__((stream));
     int i, x, y, z;
@@ -63,7 +63,7 @@ const THREES: &str = r"int main(void) {
 }
 ";
 
-/// The first 6,000 read nothing, and of the 16,001 others each reads what the one before it wrote, so that no portion can begin among these.
+/// The first 6,000 read nothing, and of the 16,001 others each reads what the one before it wrote: one batch after the other.
 const CHAINED: &str = r"int main(void) {
     int s __attribute__((stream));
     int i, x, y, z;
@@ -87,7 +87,7 @@ const CHAINED: &str = r"int main(void) {
 }
 ";
 
-/// Each reads what the one before it wrote, from the first one on: nothing is portioned out.
+/// Each reads what the one before it wrote, from the first one on.
 const CHAIN: &str = r"int main(void) {
     int s __attribute__((stream));
     int i, x, y, z;
@@ -128,17 +128,18 @@ const WAITING: &str = r"int main(void) {
 }
 ";
 
-/// A program with the turns of `main`, and how many activations of it aren't run by portions at least and at most.
+/// A program with the turns of `main`, and how often the gate is passed at least and at most: by a batch once, and else by each activation.
 type Case = (&'static str, u64, u32, u32);
 
-/// The first 1,024 run alone. `main` of the second one has turns for 7,000 of its loop. Behind the one that waits, the others run in epochs.
+/// The first 512 run in an epoch and in control order. `main` of the second one has turns for 7,000 of its loop. The stretch in which one waits, and
+/// what is created beside it, run in control order up to that one.
 static CASES: [Case; 6] = [
-    (PAIRS, 1_000_000, 1_024, 2_000),
-    (PAIRS, 7_000, 1_024, 2_000),
-    (THREES, 1_000_000, 1_024, 2_000),
-    (CHAINED, 1_000_000, 10_000, 15_000),
-    (CHAIN, 1_000_000, 5_001, 5_001),
-    (WAITING, 1_000_000, 5_000, 9_000),
+    (PAIRS, 1_000_000, 512, 2_000),
+    (PAIRS, 7_000, 512, 2_000),
+    (THREES, 1_000_000, 512, 2_000),
+    (CHAINED, 1_000_000, 512, 2_000),
+    (CHAIN, 1_000_000, 512, 2_000),
+    (WAITING, 1_000_000, 512, 15_002),
 ];
 
 /// More frames than an epoch has, where fewer than 256 activations wait for its new ones.
@@ -178,7 +179,7 @@ fn run<R: Threads + Sync, G: Gate>(
 }
 
 /// Whether a program comes to the same by four workers as by one, and how the gate was passed: how often, and with which largest number.
-fn portioned<R: Threads + Sync>(
+fn compared<R: Threads + Sync>(
     rt: &R,
     alloc: Global,
     code: &Code,
@@ -198,11 +199,11 @@ fn portioned<R: Threads + Sync>(
     Some((same, count, largest))
 }
 
-/// Asks that a program comes to the same, and how many of its activations aren't run by portions.
-fn is_portioned<R: Threads + Sync + Abort>(rt: &R, alloc: Global, case: &Case) {
+/// Asks that a program comes to the same, and how often the gate was passed.
+fn is_in_batches<R: Threads + Sync + Abort>(rt: &R, alloc: Global, case: &Case) {
     let (text, control, least, most) = *case;
     let code = compiled(rt, alloc, text).expect(rt, "a program");
-    let (same, calls, largest) = portioned(rt, alloc, &code, control.min(1_000_000)).expect(
+    let (same, calls, largest) = compared(rt, alloc, &code, control.min(1_000_000)).expect(
         rt, "memory",
     );
     assert!(rt; same, "{text}");
@@ -211,8 +212,8 @@ fn is_portioned<R: Threads + Sync + Abort>(rt: &R, alloc: Global, case: &Case) {
 }
 
 #[test]
-fn portions_come_to_what_one_worker_comes_to(rt: HostRuntime) {
+fn batches_come_to_what_one_worker_comes_to(rt: HostRuntime) {
     for case in &CASES {
-        is_portioned(&rt, rt.alloc(), case);
+        is_in_batches(&rt, rt.alloc(), case);
     }
 }
