@@ -187,15 +187,14 @@ pub grown_by : (at_most : ℕ) (before after : RunSoFar) (list next : List Activ
     → (length (created_so_far before) ≤ length (created_so_far after)) × (after.has_ended ≡ false → length (created_so_far before) < length (created_so_far after))
 grown_by at_most before after list next advance =
     let made = advance.created in
-    let l = ap length made.joined ∙ length-append (created_so_far before) (take advance.count (remaining before)) in
-    (
+    let l = ap length made.joined ∙ length-append (created_so_far before) (take advance.count (remaining before)) in (
       omega (arith, l),
       λ on.
-      let ended : after.has_ended ≡ nat_lt (length (remaining before)) advance.count = ap (λ (r : RunSoFar). r.has_ended) made.is_run in
-      let ge = ltb-false (length (remaining before)) advance.count (sym ended ∙ on) in
-      let n = length-take advance.count (remaining before) in
-      let s = advance.some in
-      omega (arith, l, ge, n, s),
+          let ended : after.has_ended ≡ nat_lt (length (remaining before)) advance.count = ap (λ (r : RunSoFar). r.has_ended) made.is_run in
+          let ge = ltb-false (length (remaining before)) advance.count (sym ended ∙ on) in
+          let n = length-take advance.count (remaining before) in
+          let s = advance.some in
+          omega (arith, l, ge, n, s),
     )
 
 -- what is held after a stretch, whether all of it ran or nothing

@@ -131,7 +131,11 @@ fn run_and_create<R: Threads + Sync, G: Gate>(
         → length (created_so_far standing.old.control) < length (created_so_far standing.new.control)) }
 {
     let last = standing.control.end().is_some();
-    if standing.held.pace.is_worth_threads(standing.activations.len() as u64) {
+    if standing
+        .held
+        .pace
+        .is_worth_threads(standing.activations.len() as u64)
+    {
         let all = run_in_batches(
             rt, standing, order, alloc, code, input, budgets, workers, gate,
         )?;

@@ -189,11 +189,7 @@ fn run_stretch<G: Gate>(
 
 /// Has the control program create the next `count` activations, or all that remain, and lays them out. Those before them have ended, and their lists
 /// are used again.
-fn create_stretch(
-    standing: &mut Standing<'_>,
-    alloc: Global,
-    count: u32,
-) -> Result<(), Memory>
+fn create_stretch(standing: &mut Standing<'_>, alloc: Global, count: u32) -> Result<(), Memory>
     requires some { 1 ≤ count }
     requires laid { IsLayout standing.old.layout }
     requires takes { (after : RunSoFar) (added : List Activation) → HasCreated count standing.old.control after [] added → TakesMore standing.old.layout added }

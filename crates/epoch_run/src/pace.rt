@@ -36,6 +36,7 @@ const STEPS_FOR_THREADS: u64 = 200_000;
 
 /// How many steps one worker runs alone at most, about, to see how long bodies are, and how many activations.
 const TRIED_STEPS: u64 = 200_000;
+
 const TRIED: u64 = 256;
 
 /// How many steps are worth a thread.

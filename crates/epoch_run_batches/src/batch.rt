@@ -111,14 +111,7 @@ fn run_number<J: Meaning, B: LocalBodies>(
     }
     let spans = workload.layout.spans_of(number as usize);
     let end = run_one(
-        workload,
-        sources,
-        number,
-        spans,
-        from,
-        own,
-        buffers,
-        scratch,
+        workload, sources, number, spans, from, own, buffers, scratch,
     )?;
     if let Some(end) = end {
         ended.push(Ended { number, end })?;

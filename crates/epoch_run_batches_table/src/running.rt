@@ -88,9 +88,7 @@ fn run_given<J: Meaning + Send + Sync, R: Threads + Sync, B: Bodies, G: Gate>(
         layout,
         bodies,
     };
-    run_batches_of::<J, R, B, G>(
-        rt, alloc, &workload, input, before, batches, workers, gate,
-    )
+    run_batches_of::<J, R, B, G>(rt, alloc, &workload, input, before, batches, workers, gate)
 }
 
 /// Runs batches of activations of the run that is picked, as `run_batches` does. Activations whose bodies aren't at hand are left out.

@@ -12,9 +12,9 @@ mod ends;
 #[cfg(test)]
 mod examples;
 #[cfg(test)]
-mod lengths;
-#[cfg(test)]
 mod in_batches;
+#[cfg(test)]
+mod lengths;
 #[cfg(test)]
 mod stretches;
 #[cfg(test)]
