@@ -2,12 +2,15 @@
 """tests/definitions.py [--write | --why NAME]: the definitions that a reader of the promise of the top call believes.
 
 It reads the contract of the call that `main` makes, CONTRACT in CALL, follows each name that it cites through the imports of the
-files in crates/*/specs, and compares the definitions that it comes to, with the lines on which they stand, with the list in
-docs/PROMISES.md. The last line is `N passed, M failed`. With --write it puts the list and its numbers there: how many definitions in how
-many lines of how many files, and how many of them in how many lines stand below ALONE, what a run alone is meant to give. With --why NAME it prints one
-way from the contract to a definition of that name. Types of the code (`declared`) and std's words are left out."""
+files in crates/*/specs, and compares what it comes to, with the lines on which it stands, with the list in docs/PROMISES.md: the
+definitions; the types of the code and the constants that they name, by their declarations in crates/*/src; the definitions and types of
+clap below those that are cited; and by name alone the words of std, which are not followed further. Of a trait the ghost members count
+alone. The last line is `N passed, M failed`. With --write it puts the
+list and its numbers there: how many of each in how many lines, and how many stand below ALONE, what a run alone is meant to give. With
+--why NAME it prints one way from the contract to a definition of that name. It asks for the kit that `rt` is of, since clap stands there."""
 import os
 import re
+import shutil
 import sys
 
 TOP = os.path.dirname(os.path.dirname(os.path.abspath(__file__)))
@@ -15,6 +18,9 @@ CALL = "crates/os_serve/src/words.rt"
 CONTRACT = "pub fn serve_words"
 ALONE = "IsOutcomeOfRun"
 LIST = "docs/PROMISES.md"
+KIT = os.path.dirname(os.path.dirname(os.path.realpath(shutil.which("rt") or "/no/kit/rt")))
+CRATE_OF_KIT = "clap"
+STD = "std"
 NAME = r"[^\s(){}.;,:=λ→∷×\"]+"
 KEYWORDS = {"abbrev", "pub", "unfoldable", "mutual", "record", "data", "module", "where", "use", "mod", "let", "in", "elim", "as"}
 
@@ -103,18 +109,96 @@ class Module:
         return None
 
 
+class Declared(Module):
+    """A type, a trait or the constants of one file of src/, as specs/ cite them."""
+
+    def __init__(self, name, path, types, uses):
+        super().__init__(name, path, [])
+        self.types = types  # of all crates: by the crate and the name, and by the file and the name, the module
+        self.uses = uses  # by name: the crate from which the file has it
+
+    def cited(self):
+        """The types that the declaration names, its own and the names of its variants left out."""
+        for _, text in self.definitions.values():
+            for word in re.findall(r"\b[A-Z]\w*", re.sub(r"^[A-Z]\w*", "", text, flags=re.M)):
+                found = self.types.get((self.uses.get(word, self.path), word))
+                if found and word not in self.definitions:
+                    yield found, word
+
+    def said(self):
+        """What its ghost members and fields say."""
+        return "\n".join(re.findall(r"^(?:pub )?ghost \w+: \{(.*?)\}[,;]$", "\n".join(text for _, text in self.definitions.values()), re.M | re.S))
+
+
+def items_of(lines):
+    """The types, traits and constants that a file declares: keyword, name, line, and its lines without comments, attributes and, of a
+    trait, all but the ghost members."""
+    at = 0
+    while at < len(lines):
+        found = re.match(r"(?:pub(?:\([a-z]+\))? )?(struct|enum|trait|const|static) (\w+)", lines[at])
+        if not found:
+            at += 1
+            continue
+        first, text, depth = at, [], 0
+        while True:
+            line = re.sub(r"\s*//.*$", "", lines[at]).strip() if found[1] not in ("const", "static") else lines[at].strip()
+            depth += sum(map(line.count, "{([")) - sum(map(line.count, "})]"))
+            text += [line] if line and not line.startswith("#[") else []
+            at += 1
+            ended = line.endswith((";", "}")) if found[1] not in ("const", "static") else line.endswith(";")
+            if at == len(lines) or (depth <= 0 and ended):
+                break
+        if found[1] == "trait":
+            text = [line for line in text if line.startswith("ghost ") and not line.startswith("ghost use")]
+        yield found[1], found[2], first + 1, text
+
+
+def read_types(crate, top, shown, modules, types):
+    """Puts the types, traits and constants of a crate's src/ among the modules."""
+    for folder, _, files in sorted(os.walk(f"{top}/src")):
+        for file in sorted(files):
+            if not file.endswith(".rt"):
+                continue
+            path = os.path.join(folder, file)
+            with open(path, encoding="utf-8") as opened:
+                lines = opened.read().split("\n")
+            place = [part for part in os.path.relpath(path, f"{top}/src")[:-3].split("/") if part not in ("lib", "mod")]
+            uses = {}
+            for head, names in re.findall(r"^\s*(?:pub )?use (\w+)::(?:\w+::)*([^;]*);", "\n".join(lines), re.M):
+                for word in re.findall(r"\b[A-Z]\w*", names):
+                    uses[word] = crate if head in ("crate", "super", "self") else head
+            for kind, item, start, text in items_of(lines):
+                owner = "TheConstants" if kind in ("const", "static") else item
+                name = ".".join([f"Rattle.{crate}.specs.declared", *place, owner])
+                module = modules.setdefault(name, Declared(name, os.path.join(shown, os.path.relpath(path, top)), types, uses))
+                for ghost in re.findall(r"^ghost (use [^;]*);$", "\n".join(lines), re.M):
+                    module.take_import(" ".join(ghost.split()))
+                module.definitions[item] = (start, "\n".join(text))
+                if owner != item:
+                    continue
+                types.setdefault((crate, item), name)
+                types[module.path, item] = name
+                module.constructors["Ghosts"] = item
+                variants = modules.setdefault(f"{name}.TheVariants", Module(f"{name}.TheVariants", module.path, []))
+                for line in text[1:] if kind == "enum" else []:
+                    for word in re.findall(r"\b([A-Z]\w*)\b", re.sub(r"\([^)]*\)|\{[^}]*\}", "", line)):
+                        variants.imports[word] = (name, item)
+                        variants.handed_on.add(word)
+
+
 def read_modules():
-    """The modules of all files of specs/, by name."""
-    modules = {}
-    for crate in sorted(os.listdir(f"{TOP}/crates")):
-        top = f"{TOP}/crates/{crate}/specs"
-        for folder, _, files in os.walk(top):
+    """The modules of all files of specs/, by name, with what the files of src/ declare."""
+    modules, types = {}, {}
+    crates = [(crate, f"{TOP}/crates/{crate}", f"crates/{crate}") for crate in sorted(os.listdir(f"{TOP}/crates"))]
+    for crate, top, shown in [*crates, (CRATE_OF_KIT, f"{KIT}/rattle/{CRATE_OF_KIT}", CRATE_OF_KIT)]:
+        for folder, _, files in os.walk(f"{top}/specs"):
             for file in files:
                 if file.endswith(".antt") and file != "Lib.antt":
                     path = os.path.join(folder, file)
-                    name = f"Rattle.{crate}.specs." + os.path.relpath(path, top)[:-5].replace("/", ".")
+                    name = f"Rattle.{crate}.specs." + os.path.relpath(path, f"{top}/specs")[:-5].replace("/", ".")
                     with open(path, encoding="utf-8") as lines:
-                        modules[name] = Module(name, os.path.relpath(path, TOP), lines.read().split("\n"))
+                        modules[name] = Module(name, os.path.join(shown, os.path.relpath(path, top)), lines.read().split("\n"))
+        read_types(crate, top, shown, modules, types)
     return modules
 
 
@@ -125,7 +209,9 @@ class Citations:
         self.modules = modules
 
     def within(self, module, name):
-        """The definition that a name of a module belongs to."""
+        """The definition that a name of a module belongs to; a word of std stands for itself."""
+        if module.startswith("Rattle.std."):
+            return STD, name
         there = self.modules.get(module)
         if there is None:
             return None
@@ -153,7 +239,7 @@ class Citations:
         bound |= set(re.findall(rf"\blet\s+({NAME})\s*[:=]", text))
         # names of fields are no citations
         text = re.sub(rf"([{{;]\s*|record\s+{NAME}\s*\{{\s*)({NAME})\s*=(?!=)", r"\1 ", text)
-        for word in re.findall(r"[^\s(){};,:=λ→×\"]+", text):
+        for word in [*re.findall(r"[^\s(){};,:=λ→×\"]+", text), *re.findall(r"(?<= )==(?= )", text)]:
             word = word.rstrip(".")
             if word and not word.startswith(".") and word.split(".")[0] not in bound:
                 found = self.resolve(module, signs.get(word, word))
@@ -181,35 +267,66 @@ def follow(modules, begun=None):
         come_from.setdefault(found, None)
     todo = list(come_from)
     for at in todo:
-        module = modules[at[0]]
-        for found in citations.of(module, module.definitions[at[1]][1]):
+        module = modules.get(at[0])
+        if module is None:
+            continue
+        declared = isinstance(module, Declared)
+        below = citations.of(module, module.said() if declared else module.definitions[at[1]][1])
+        for found in [*below, *(module.cited() if declared else [])]:
             if found not in come_from:
                 come_from[found] = at
                 todo.append(found)
     return come_from
 
 
-def rows_of(modules, found):
-    files = {}
-    for name, definition in found:
-        module = modules[name]
-        files.setdefault(module.path, []).append((module.definitions[definition][0], definition))
-    return [f"- `{path}`: " + ", ".join(f"`{name}` {line}" for line, name in sorted(files[path])) for path in sorted(files)]
+class Count:
+    """What was found, by its kind."""
+
+    def __init__(self, modules, found):
+        self.modules = modules
+        self.words = sorted({name for module, name in found if module == STD})
+        rest = sorted(at for at in found if at[0] != STD)
+        self.of_kit = [at for at in rest if modules[at[0]].path.startswith(CRATE_OF_KIT)]
+        own = [at for at in rest if at not in set(self.of_kit)]
+        self.types = [at for at in own if isinstance(modules[at[0]], Declared)]
+        self.definitions = [at for at in own if at not in set(self.types)]
+
+    def size(self, found):
+        """How many these are, and how many lines they have, without comments and imports."""
+        return f"{len(found)} in {sum(len(self.modules[at].definitions[name][1].splitlines()) for at, name in found)} lines"
+
+    def files(self, found):
+        return len({self.modules[module].path for module, _ in found})
+
+    def rows(self):
+        """The rows of the list, by files, and the words of std."""
+        rows = []
+        for found in ([*self.definitions, *self.types], self.of_kit):
+            files = {}
+            for module, name in found:
+                files.setdefault(self.modules[module].path, []).append((self.modules[module].definitions[name][0], name))
+            rows += [f"- `{path}`: " + ", ".join(f"`{name}` {line}" for line, name in sorted(files[path])) for path in sorted(files)]
+        return [*rows, f"- {STD}: " + ", ".join(f"`{word}`" for word in self.words)]
+
+    def cells(self):
+        """The numbers of each kind, by what the table calls it."""
+        return {
+            "definitions of this repository": f"{self.size(self.definitions)} of {self.files(self.definitions)} files",
+            "types and constants of its code": self.size(self.types),
+            f"definitions and types of `{CRATE_OF_KIT}`": self.size(self.of_kit) if self.of_kit else "none",
+            f"words of {STD}": str(len(self.words)),
+        }
 
 
-def size_of(modules, found):
-    """How many definitions these are, and how many lines they have, without comments and imports."""
-    return f"{len(found)} in {sum(len(modules[at].definitions[name][1].splitlines()) for at, name in found)} lines"
-
-
-def page_with(page, rows, all_of_them, alone):
-    """The page with these rows as its list, and with its numbers."""
+def page_with(page, count, alone):
+    """The page with the rows of the count as its list, and with the numbers of both."""
+    numbers = {f"| {kind} |": f"| {kind} | {cell} | {alone.cells()[kind]} |" for kind, cell in count.cells().items()}
     lines = page.split("\n")
-    first = next(at for at, line in enumerate(lines) if line.startswith("- `crates/"))
-    behind = next(at for at in range(first, len(lines)) if not lines[at].startswith("- `crates/"))
-    text = "\n".join(lines[:first] + rows + lines[behind:])
-    text = re.sub(rf"below `{ALONE}`: \d+ in \d+ lines", f"below `{ALONE}`: {alone}", text)
-    return re.sub(r"\d+ in \d+ lines of \d+ files of this repository", f"{all_of_them} of {len(rows)} files of this repository", text)
+    is_row = re.compile(rf"- (`(crates|{CRATE_OF_KIT})/|{STD}: )").match
+    first = next(at for at, line in enumerate(lines) if is_row(line))
+    behind = next(at for at in range(first, len(lines)) if not is_row(lines[at]))
+    head = [next((row for begin, row in numbers.items() if line.startswith(begin)), line) for line in lines[:first]]
+    return "\n".join(head + count.rows() + lines[behind:])
 
 
 def main(words):
@@ -225,8 +342,8 @@ def main(words):
         return 0
     with open(f"{TOP}/{LIST}", encoding="utf-8") as file:
         page = file.read()
-    alone = size_of(modules, follow(modules, [at for at in found if at[1] == ALONE]))
-    wanted = page_with(page, rows_of(modules, found), size_of(modules, found), alone)
+    alone = Count(modules, follow(modules, [at for at in found if at[1] == ALONE]))
+    wanted = page_with(page, Count(modules, found), alone)
     if words[:1] == ["--write"]:
         with open(f"{TOP}/{LIST}", "w", encoding="utf-8") as file:
             file.write(wanted)

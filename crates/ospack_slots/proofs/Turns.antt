@@ -8,7 +8,7 @@ use Rattle.os_io.specs.Counts.{raised, last_count}
 use Rattle.os_io.specs.Writing.{TookProperPrefix}
 use Rattle.os_io.specs.declared.writing.WriteError.{WriteError}
 use Rattle.ospack_slots.specs.Slots.AreParts.{none}
-use Rattle.ospack_slots.specs.Formats.{Format}
+use Rattle.ospack_slots.specs.Formats.{Format, IsUnended}
 use Rattle.ospack_slots.specs.Answers.{Moment, Went, Reached, AnswersFor}
 use Rattle.ospack_slots.specs.Turns.{IsTurn, WentSoFar}
 use Rattle.ospack_slots.specs.declared.errors.PackError.{PackError}
@@ -77,7 +77,7 @@ fault : (A : Type 0) (e : PackError) (f : Format) (n : ℕ) (a b c : Moment) →
     → AnswersFor {A = A} f a c (Err e)
 fault A (Slot number why) f n a b c so_far turn =
     (so_far.payloads, turn.0, reach f n a b c so_far turn.0 [] turn.2, turn.1, turn.3 ∙ sym so_far.counted, turn.4)
-fault A Read f n a b c so_far turn = (so_far.payloads, turn.0, reach f n a b c so_far turn.0 [] turn.1)
+fault A Read f n a b c so_far turn = (so_far.payloads, turn.0, reach f n a b c so_far turn.0 [] turn.2, turn.1)
 fault A (Write e) f n a b c so_far turn =
     (so_far.payloads, turn.0, turn.1, turn.2, reach f n a b c so_far turn.0 (take turn.2 (f.written turn.1)) turn.5, turn.3, turn.4)
 fault A Memory f n a b c so_far turn = absurd turn
@@ -142,8 +142,13 @@ cut {Q = Q} e f number left told before after g h r part payload bytes is one ha
 
 -- a turn in which a read failed
 pub lost : {Q : PackError → Type 0} (f : Format) (number : ℕ) (a c : Moment) (r : Result Turn PackError) → IsErrAnd r Q
-    → ((y : PackError) → Q y → y ≡ Read) → (rest : List ℕ) → Went rest [] a c → IsTurn f number a c r
-lost {Q = Q} f number a c r is one rest went =
+    → ((y : PackError) → Q y → y ≡ Read) → (rest : List ℕ) → IsUnended f rest → Went rest [] a c → IsTurn f number a c r
+lost {Q = Q} f number a c r is one rest unended went =
     let p = err_from_is_err_and {Q = Q} r is in
-    let turn : IsTurn f number a c (Err Read) = (rest, went) in
+    let turn : IsTurn f number a c (Err Read) = (rest, unended, went) in
     subst (λ (r : Result Turn PackError). IsTurn f number a c r) (sym (p.1 ∙ ap Err (one p.0 p.2))) turn
+
+-- what was read before a read failed
+pub lost_went : (g h : ℕ) (told left taken : Option (List ℕ)) (read : List ℕ) → told ≡ prepend_known read left → raised h 0 ≡ raised g (length read)
+    → Went read [] (record { left = told; given = g; taken = taken }) (record { left = left; given = h; taken = taken })
+lost_went g h told left taken read is given = record { left = is; given = given; taken = append_nothing taken }

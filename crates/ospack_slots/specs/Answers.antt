@@ -3,7 +3,7 @@ use Rattle.std.specs.Prelude.{◌≡◌, ℕ, ◌<◌, List, [], ◌++◌, lengt
 use Rattle.std.specs.Io.KnownBytes.{append_known, prepend_known, IsAtEnd}
 use Rattle.os_io.specs.Counts.{raised, last_count}
 use Rattle.ospack_slots.specs.Slots.{AreParts}
-use Rattle.ospack_slots.specs.Formats.{Format}
+use Rattle.ospack_slots.specs.Formats.{Format, IsUnended}
 use Rattle.ospack_slots.specs.declared.errors.SlotFault.TheVariants.{EndsEarly}
 use Rattle.ospack_slots.specs.declared.errors.PackError.{PackError}
 use Rattle.ospack_slots.specs.declared.errors.PackError.TheVariants.{Slot, Read, Write, Memory, Uncounted}
@@ -37,9 +37,9 @@ AnswersFor f before after (Ok _) =
 AnswersFor f before after (Err (Slot number fault)) =
     (payloads : List (List ℕ)) × (rest : List ℕ) × Reached f before after payloads rest []
     × f.IsRefused rest fault × (number ≡ length payloads) × (fault ≡ EndsEarly → IsAtEnd after.left)
--- what was read of a further part isn't written
+-- what was read of a further part isn't written, and didn't reach that part's end
 AnswersFor f before after (Err Read) =
-    (payloads : List (List ℕ)) × (rest : List ℕ) × Reached f before after payloads rest []
+    (payloads : List (List ℕ)) × (rest : List ℕ) × Reached f before after payloads rest [] × IsUnended f rest
 -- of the last part that was read, not all was written
 AnswersFor f before after (Err (Write _)) =
     (payloads : List (List ℕ)) × (part payload : List ℕ) × (n : ℕ)

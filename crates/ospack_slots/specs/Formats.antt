@@ -1,5 +1,5 @@
 -- What packing and unpacking take, what they write of it, and what they refuse.
-use Rattle.std.specs.Prelude.{◌≡◌, ℕ, ◌+◌, ◌<◌, ◌≤◌, ◌⊎◌, List, length}
+use Rattle.std.specs.Prelude.{◌≡◌, ℕ, ◌+◌, ◌<◌, ◌≤◌, ◌⊎◌, List, [], length}
 use Rattle.ospack_slots.specs.Slots.{IsSlotOf, IsPieceOf, HasLength, piece, slot_of}
 use Rattle.ospack_slots.specs.declared.errors.SlotFault.{SlotFault}
 use Rattle.ospack_slots.specs.declared.errors.SlotFault.TheVariants.{EndsEarly, TooLong}
@@ -37,3 +37,7 @@ unpacking size = record { IsPart = IsPieceOf size; written = slot_of size; IsRef
 abbrev pub format_of : Way → ℕ → Format
 format_of Packing size = packing size
 format_of Unpacking size = unpacking size
+
+-- bytes that are none, or those of a part that hasn't ended
+abbrev pub IsUnended : Format → List ℕ → Type 0
+IsUnended f bytes = (bytes ≡ []) ⊎ f.IsRefused bytes EndsEarly

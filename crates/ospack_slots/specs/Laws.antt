@@ -1,7 +1,7 @@
 -- What packing and unpacking are to one another.
-use Rattle.std.specs.Prelude.{◌≡◌, ℕ, ◌≤◌, List, [], ◌++◌, length, flat_map, Option, None, Some}
+use Rattle.std.specs.Prelude.{◌≡◌, ℕ, ◌<◌, ◌≤◌, List, [], ◌++◌, length, flat_map, Option, None, Some}
 use Rattle.ospack_slots.specs.Slots.{IsSlotOf, IsPieceOf, AreParts, piece, slot_of}
-use Rattle.ospack_slots.specs.Formats.{Format}
+use Rattle.ospack_slots.specs.Formats.{Format, IsUnended}
 use Rattle.ospack_slots.specs.declared.errors.SlotFault.{SlotFault}
 
 -- what is packed of slots are pieces, with the same payloads
@@ -41,3 +41,7 @@ pub record Divides (f : Format) (bytes : List ℕ) (payloads : List (List ℕ)) 
 abbrev pub DividesOnce : (ℕ → Format) → Type 0
 DividesOnce f = (size : ℕ) → 2 ≤ size → (bytes : List ℕ) (one other : List (List ℕ)) (end end' : Option SlotFault) →
     Divides (f size) bytes one end → Divides (f size) bytes other end' → (one ≡ other) × (end ≡ end')
+
+-- a part that hasn't ended has fewer bytes than a slot
+abbrev pub UnendedIsShort : (ℕ → Format) → Type 0
+UnendedIsShort f = (size : ℕ) → 2 ≤ size → (bytes : List ℕ) → IsUnended (f size) bytes → length bytes < size

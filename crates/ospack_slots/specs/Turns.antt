@@ -2,7 +2,7 @@
 use Rattle.std.specs.Prelude.{◌≡◌, ℕ, ◌<◌, List, [], length, take, flat_map, Result, Ok, Err}
 use Rattle.std.specs.Io.KnownBytes.{IsAtEnd}
 use Rattle.ospack_slots.specs.Slots.{AreParts}
-use Rattle.ospack_slots.specs.Formats.{Format}
+use Rattle.ospack_slots.specs.Formats.{Format, IsUnended}
 use Rattle.ospack_slots.specs.Answers.{Moment, Went}
 use Rattle.ospack_slots.specs.declared.errors.SlotFault.TheVariants.{EndsEarly}
 use Rattle.ospack_slots.specs.declared.errors.PackError.{PackError}
@@ -17,7 +17,7 @@ IsTurn f number before after (Ok Done) =
 IsTurn f number before after (Ok End) = Went [] [] before after × IsAtEnd after.left
 IsTurn f number before after (Err (Slot n fault)) =
     (rest : List ℕ) × f.IsRefused rest fault × Went rest [] before after × (n ≡ number) × (fault ≡ EndsEarly → IsAtEnd after.left)
-IsTurn f number before after (Err Read) = (rest : List ℕ) × Went rest [] before after
+IsTurn f number before after (Err Read) = (rest : List ℕ) × IsUnended f rest × Went rest [] before after
 IsTurn f number before after (Err (Write e)) =
     (part payload : List ℕ) × (n : ℕ) × f.IsPart part payload × (n < length (f.written payload))
     × Went part (take n (f.written payload)) before after

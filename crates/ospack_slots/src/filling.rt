@@ -47,7 +47,7 @@ pub(crate) fn fill_part<F: Files>(
     ensures bytes { IfOk result (λ past. F.rest files.old ≡ prepend_known (drop from (take past buffer.new)) (F.rest files.new)) }
     ensures end { IfOk result (λ past. past < to → IsAtEnd (F.rest files.new)) }
     ensures given { IfOk result (λ past. raised (F.given files.new) 0 ≡ raised (F.given files.old) (past - from)) }
-    ensures lost { OnErr result ((read : List ℕ) × (F.rest files.old ≡ prepend_known read (F.rest files.new))
+    ensures lost { OnErr result ((read : List ℕ) × (length read < to - from) × (F.rest files.old ≡ prepend_known read (F.rest files.new))
         × (raised (F.given files.new) 0 ≡ raised (F.given files.old) (length read))) }
     ensures failed { OnErr result (HasRisen (F.faults files.old) (F.faults files.new)) }
     ensures no_fault { OnOk result (F.faults files.new ≡ F.faults files.old) }

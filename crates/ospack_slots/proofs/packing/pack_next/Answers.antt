@@ -1,8 +1,14 @@
 use Rattle.std.proofs.Common.{length, arith}
 use Rattle.ospack_slots.specs.Formats.{packing}
 use Rattle.ospack_slots.proofs.Packed.{packed_turn, slot_read, piece_read, whole_went}
-use Rattle.ospack_slots.proofs.Turns.{cut}
+use Rattle.ospack_slots.proofs.Turns.{cut, lost, lost_went}
+use Rattle.ospack_slots.proofs.Unended.{of_slot}
 use Rattle.ospack_slots.proofs.packing.pack_next.Goals as goal
+
+pub returns-in_err-count-clause-turn : goal.returns-in_err-count-clause-turn
+returns-in_err-count-clause-turn g c =
+    let read = c.in_err-count.ensures.lost in
+    lost (packing (length c.args.slot.now)) c.args.number _ _ c.from_residual.result c.from_residual.ensures.1 (λ y q. q) read.0 (of_slot (length c.args.slot.now) read.0 (omega (arith, read.1))) (lost_went _ _ _ _ _ read.0 read.2 read.3)
 
 pub returns-in_err-write_whole-clause-turn : goal.returns-in_err-write_whole-clause-turn
 returns-in_err-write_whole-clause-turn g c =
