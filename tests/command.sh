@@ -1496,7 +1496,21 @@ int main(void) {
 END
 shows "elements that aren't bytes" 0 "0 -2147483648 activation 0 line 4 / 1 2147483647 activation 0 line 4" \
     stream negative.c in.bin s
-for name in s "s[2]" "s[01]" "s[+1]" "s[-1]" "s[1" "s[]" "s[1]x" "s [1]" "st[0]" k none "" osi; do
+shows "the input, which no item names" 0 "0 1 input / 1 2 input / 2 3 input / 3 4 input" stream negative.c in.bin osin
+echo 'int main(void) { int osin; osin = 1; }' >hidden.c
+shows "the input, whose name a variable hides" 0 "3 4 input" stream hidden.c in.bin osin 3
+shows "the output, which no task writes" 0 "" stream hidden.c in.bin osout
+cat >own.c <<'END'
+int main(void) {
+    int osin __attribute__((stream)), x, y;
+    #pragma omp task output(osin << x)
+    x = 7;
+    #pragma omp task input(osin >> x) output(osout << y)
+    y = x;
+}
+END
+shows "a stream of a program's own that is called osin" 0 "0 7 activation 0 line 3" stream own.c in.bin osin
+for name in s "s[2]" "s[01]" "s[+1]" "s[-1]" "s[1" "s[]" "s[1]x" "s [1]" "st[0]" k none "" osi "osin[0]" osout1; do
     shows "a name that is no stream's: $name" 2 "no stream $name" stream waits.c in.bin "$name"
 done
 graph_begins='digraph streams { /   node [fontname="sans-serif"];'
