@@ -14,12 +14,12 @@ TOP = os.path.dirname(os.path.dirname(os.path.abspath(__file__)))
 OSVIEW = sys.argv[1] if len(sys.argv) > 1 else f"{TOP}/crates/osview/out/osview"
 
 SHAPES = {
-    "starved": ("s[i] >> x", "activation {i}, of the task in line 5, waits for element 0 of stream s[{i}], which no task writes"),
+    "starved": ("s[i] >> x", "activation {i}, of the task in line 5, waits for element 0 of stream s[{i}], which no task writes; the stream has 0 of the 1 asked for"),
     "waiting": (
         "s[i + 1] >> x) output(s[i] << y",
         "activation {i}, of the task in line 5, waits for element 0 of stream s[{next}] from activation {next}, which waits too",
     ),
-    "alike": ("s[0] >> x", "activation 0, of the task in line 5, waits for element 0 of stream s[0], which no task writes"),
+    "alike": ("s[0] >> x", "activation 0, of the task in line 5, waits for element 0 of stream s[0], which no task writes; the stream has 0 of the 1 asked for"),
 }
 
 PROGRAM = """int main(void) {

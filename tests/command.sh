@@ -1533,7 +1533,7 @@ shows "many that trap, in one line" 1 \
     "main ended after 300 activations / 0 of 300 activations are done / 0 of 300 bytes of the output are there / activation 0, of the task in line 7, trapped in line 8: division by zero; likewise 299 more of this task" \
     report "$top/examples/divide.c" zeros.bin
 shows "an input that ends before a window" 1 \
-    "main ended after 1 activation / 0 of 1 activations are done / 0 of 4 bytes of the output are there / activation 0, of the task in line 3, waits for element 2 of stream osin, which stands past the end of the input" \
+    "main ended after 1 activation / 0 of 1 activations are done / 0 of 4 bytes of the output are there / activation 0, of the task in line 3, waits for element 2 of stream osin, which stands past the end of the input; the stream has 2 of the 4 asked for" \
     report first.c short.bin
 cat >waits.c <<'END'
 int main(void) {
@@ -1566,10 +1566,56 @@ END
 shows "tasks that wait" 1 "$(printf '%s / ' \
     "main trapped in line 25 after 11 activations: division by zero" "2 of 11 activations are done" "1 of 5 bytes of the output are there" \
     "activation 0, of the task in line 6, waits for itself: stream st has no first element; likewise 2 more of this task" \
-    "activation 4, of the task in line 11, waits for element 1 of stream s[1], which no task writes; the task in line 14 reads this stream too; likewise 2 more of this task" \
-    "activation 7, of the task in line 14, waits for element 4 of stream s[1], which no task writes; the task in line 11 reads this stream too" \
+    "activation 4, of the task in line 11, waits for element 1 of stream s[1], which no task writes; the stream has 1 of the 5 asked for; the task in line 14 reads this stream too; likewise 2 more of this task" \
+    "activation 7, of the task in line 14, waits for element 4 of stream s[1], which no task writes; the stream has 1 of the 5 asked for; the task in line 11 reads this stream too" \
     "activation 9, of the task in line 20, never ran, since activation 10 failed" \
     "activation 10, of the task in line 22, used up its turns" | sed 's| / $||')" report waits.c in.bin
+cat >passes.c <<'END'
+int main(void) {
+    int w[4], y, k, s __attribute__((stream));
+    for (k = 0; k < osin_len / 4; k++) {
+        #pragma omp task input(osin >> w[5]) output(osout << y)
+        y = w[0];
+    }
+    #pragma omp task input(s >> w[0]) output(osout << y)
+    y = w[1];
+}
+END
+printf '\001\002\003\004\005\006\007\010' >eight.bin
+shows "a burst that passes its window, and one of 0" 1 "$(printf '%s / ' \
+    "main ended after 3 activations" "1 of 3 activations are done" "1 of 3 bytes of the output are there" \
+    "activation 0, of the task in line 4, leaves elements of stream osin out: its window has size 4 and burst 5; likewise 1 more" \
+    "activation 1, of the task in line 4, waits for element 8 of stream osin, which stands past the end of the input; the stream has 8 of the 9 asked for; its window has size 4 and burst 5" \
+    "activation 2, of the task in line 7, waits for element 0 of stream s, which no task writes; the stream has 0 of the 4 asked for; its window has size 4 and burst 0, which looks without taking" | sed 's| / $||')" \
+    report passes.c eight.bin
+shows "a chain that ends at nobody, in sentences" 0 \
+    "activation 4, of the task in line 11, waits for element 1 of stream s[1], which no task writes; the stream has 1 of the 5 asked for; the task in line 14 reads this stream too" \
+    explain waits.c in.bin 4
+shows "one that waits for itself, in a sentence" 0 \
+    "activation 0, of the task in line 6, waits for itself: stream st has no first element" explain waits.c in.bin 0
+shows "one that was poisoned, and the one that failed" 1 "$(printf '%s / ' \
+    "activation 9, of the task in line 20, never ran, since activation 10 failed" \
+    "activation 10, of the task in line 22, used up its turns" | sed 's| / $||')" explain waits.c in.bin 9
+shows "one that is done, in a sentence" 1 "activation 3, of the task in line 11, is done" explain waits.c in.bin 3
+shows "an activation that there isn't, in a sentence" 1 "no activation 11: main created 11 activations" explain waits.c in.bin 11
+cat >links.c <<'END'
+int main(void) {
+    int s __attribute__((stream)), t __attribute__((stream)), u __attribute__((stream));
+    int x, y;
+    #pragma omp task input(t >> x) output(osout << y)
+    y = x;
+    #pragma omp task input(s >> x) output(t << y)
+    y = x + 1;
+    #pragma omp task input(u >> x) output(s << y)
+    y = x;
+}
+END
+shows "a chain of three, in sentences" 0 "$(printf '%s / ' \
+    "activation 0, of the task in line 4, waits for element 0 of stream t from activation 1, which waits too" \
+    "activation 1, of the task in line 6, waits for element 0 of stream s from activation 2, which waits too" \
+    "activation 2, of the task in line 8, waits for element 0 of stream u, which no task writes; the stream has 0 of the 1 asked for" | sed 's| / $||')" \
+    explain --workers 1 links.c in.bin 0
+shows "a program that is refused, and not explained" 3 "refused 23 line 1" explain empty.c in.bin 0
 shows "a value behind poison" 1 "0 50 activation 0 line 7 / 1 poison 1 activation 1 line 7 / 2 20 activation 2 line 7" \
     stream "$top/examples/divide.c" zero.bin osout
 shows "elements of a stream that are values" 1 "0 75 activation 8 line 18" stream waits.c in.bin "s[1]"
@@ -1591,7 +1637,21 @@ int main(void) {
 END
 shows "elements that aren't bytes" 0 "0 -2147483648 activation 0 line 4 / 1 2147483647 activation 0 line 4" \
     stream negative.c in.bin s
-for name in s "s[2]" "s[01]" "s[+1]" "s[-1]" "s[1" "s[]" "s[1]x" "s [1]" "st[0]" k none "" osi; do
+shows "the input, which no item names" 0 "0 1 input / 1 2 input / 2 3 input / 3 4 input" stream negative.c in.bin osin
+echo 'int main(void) { int osin; osin = 1; }' >hidden.c
+shows "the input, whose name a variable hides" 0 "3 4 input" stream hidden.c in.bin osin 3
+shows "the output, which no task writes" 0 "" stream hidden.c in.bin osout
+cat >own.c <<'END'
+int main(void) {
+    int osin __attribute__((stream)), x, y;
+    #pragma omp task output(osin << x)
+    x = 7;
+    #pragma omp task input(osin >> x) output(osout << y)
+    y = x;
+}
+END
+shows "a stream of a program's own that is called osin" 0 "0 7 activation 0 line 3" stream own.c in.bin osin
+for name in s "s[2]" "s[01]" "s[+1]" "s[-1]" "s[1" "s[]" "s[1]x" "s [1]" "st[0]" k none "" osi "osin[0]" osout1; do
     shows "a name that is no stream's: $name" 2 "no stream $name" stream waits.c in.bin "$name"
 done
 graph_begins='digraph streams { /   node [fontname="sans-serif"];'
@@ -1717,6 +1777,7 @@ for words in "" report "report first.c" "report first.c in.bin in.bin" "stream f
     "report --budget first.c in.bin" "report --budget 1000000001 first.c in.bin" "report --workers 0 first.c in.bin" \
     "report --workers=65 first.c in.bin" "report --control 1 --control 1 first.c in.bin" "report first.c in.bin --budget" \
     "report --turns 1 first.c in.bin" "report --budget= first.c in.bin" "report -w first.c" "--help report" "graph first.c" \
+    "explain first.c in.bin" "explain first.c in.bin x" "explain first.c in.bin 65536" "explain first.c in.bin 0 0" "explain first.c in.bin 0 --activations 1..2" \
     "graph first.c in.bin osin" "graph first.c in.bin --activations 1" "graph first.c in.bin --activations 1..x" \
     "report first.c in.bin --activations 1..2" "stream first.c in.bin osin --activations 1..2" "steps first.c in.bin --activations 1..2"; do
     # shellcheck disable=SC2086

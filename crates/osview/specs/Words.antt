@@ -12,6 +12,7 @@ IsLawful (request.Report job) = IsWithin (job_of job)
 IsLawful (request.Stream asked) = IsWithin (job_of asked.job)
 IsLawful (request.Steps job) = IsWithin (job_of job)
 IsLawful (request.Graph asked) = IsWithin (job_of asked.job)
+IsLawful (request.Explain asked) = IsWithin (job_of asked.job)
 IsLawful request.Help = Unit {0}
 IsLawful request.Version = Unit {0}
 

@@ -3,7 +3,8 @@
 //! `osview report PROGRAM INPUT` runs the program over the input as `osrun run` does, and writes in sentences what became of its
 //! activations: `answer_report`'s answer. `osview stream PROGRAM INPUT NAME` writes the elements of a stream: `answer_stream`'s.
 //! `osview steps PROGRAM INPUT` writes how many steps and turns `main` and its tasks take: `answer_steps`'s.
-//! `osview graph PROGRAM INPUT` writes a graph of the run: `answer_graph`'s.
+//! `osview graph PROGRAM INPUT` writes a graph of the run: `answer_graph`'s. `osview explain PROGRAM INPUT ACTIVATION` writes why an
+//! activation never ran: `answer_explain`'s.
 #![tactic(auto)]
 
 mod options;
@@ -12,7 +13,7 @@ mod telling;
 
 use os_io::{HostFiles, HostSink, arguments, stand_in};
 use osrun_core_jobs::Status;
-use osview_answer::{answer_graph, answer_report, answer_steps, answer_stream};
+use osview_answer::{answer_explain, answer_graph, answer_report, answer_steps, answer_stream};
 use request::{Request, request_of};
 use std::io;
 use std::process::ExitCode;
@@ -60,6 +61,15 @@ fn main(rt: HostRuntime) -> ExitCode {
             &NoGate,
         ),
         Some(Request::Graph(job)) => answer_graph(
+            &rt,
+            rt.alloc(),
+            &job,
+            &mut files,
+            &mut out,
+            &mut told,
+            &NoGate,
+        ),
+        Some(Request::Explain(job)) => answer_explain(
             &rt,
             rt.alloc(),
             &job,

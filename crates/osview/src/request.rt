@@ -6,7 +6,7 @@ ghost use Rattle.osview.specs.Words.{AreWithin, IsLawful};
 
 use crate::options::{ParsedWords, parsed_words};
 use osrun_core_jobs::Job;
-use osview_answer::{GraphChoice, GraphJob, StreamJob};
+use osview_answer::{ExplainJob, GraphChoice, GraphJob, StreamJob};
 
 /// What is to be done.
 #[derive(Clone, Copy, Debug)]
@@ -19,6 +19,8 @@ pub(crate) enum Request<'w> {
     Steps(Job<'w>),
     /// To draw a graph.
     Graph(GraphJob<'w>),
+    /// To tell why an activation never ran.
+    Explain(ExplainJob<'w>),
     /// To tell how the program is used.
     Help,
     /// To tell its version.
@@ -35,6 +37,7 @@ pub(crate) fn request_of(words: &[String]) -> Option<Request<'_>>
         "stream" => stream_of(&parsed_words(rest)?),
         "steps" => steps_of(&parsed_words(rest)?),
         "graph" => graph_of(&parsed_words(rest)?),
+        "explain" => explain_of(&parsed_words(rest)?),
         word if rest.is_empty() => option_of(word),
         _ => None,
     }
@@ -107,6 +110,21 @@ fn graph_of<'w>(words: &ParsedWords<'w>) -> Option<Request<'w>>
     Some(Request::Graph(GraphJob {
         job: job_of(words),
         view,
+    }))
+}
+
+/// The explanation that words ask for: of a program and an input, and the number of an activation, 0 to 65,535.
+fn explain_of<'w>(words: &ParsedWords<'w>) -> Option<Request<'w>>
+    requires { AreWithin words.now.options }
+    ensures { IfSome result IsLawful }
+{
+    if words.count != 3 || words.options.activations.is_some() {
+        return None;
+    }
+    let activation = words.name(2).parse::<u16>().ok()?;
+    Some(Request::Explain(ExplainJob {
+        job: job_of(words),
+        activation: u32::from(activation),
     }))
 }
 

@@ -18,13 +18,17 @@ osview shows what a run of an OpenStream program came to.
     osview graph PROGRAM INPUT [--activations A..B]
                                   runs it too, and writes the graph of tasks and streams as Graphviz text, or that of the
                                   activations A to B - 1
+    osview explain PROGRAM INPUT ACTIVATION
+                                  runs it too, and tells why the activation never ran, a sentence for each of those that wait for
+                                  one another; or what became of it
     --workers N, --budget N, --control N
                                   by how many workers, with how many turns for each task and for main, as osrun run takes them
     osview --help                 tells this
     osview --version              tells the version
 
 The statuses are those of osrun run: 0 where all is done, 1 where not all is, 2 for other words and for a NAME that no stream of
-the program has, and 3 to 7 where there is no run.
+the program has, and 3 to 7 where there is no run. Those of osview explain are 0 where the activation waits for what never comes,
+and 1 where it ended or there is none of that number.
 ";
 
 /// This status, or that of a failed write where the text couldn't be told.

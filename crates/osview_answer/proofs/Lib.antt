@@ -1,3 +1,4 @@
 pub mod TaskLines
 pub mod ReadSo
 pub mod MainRuns
+pub mod Walks

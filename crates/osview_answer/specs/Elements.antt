@@ -13,7 +13,7 @@ use Rattle.os_lexer.specs.declared.token.Token.{Token}
 use Rattle.osrun_core_run.specs.Run.{body_at}
 use Rattle.osview_answer.specs.StreamNames.{stream_names}
 use Rattle.osview_answer.specs.Told.{task_line}
-use Rattle.osview_stream.specs.Called.{IsCalled, IsNoneOf}
+use Rattle.osview_stream.specs.Called.{IsNamed, NamesNoStream}
 use Rattle.osview_stream.specs.Elements.{stream_lines}
 
 -- The lines of a stream's elements in the run of a program over an input, with these budgets, and the status of that run.
@@ -33,7 +33,7 @@ pub record AreElementsOf (task_budget control_budget : ℕ) (text input word : L
   pub tokens : List Token
   pub cover : IsTokenCover text tokens
   pub stream : ℕ
-  pub is_called : IsCalled text (streams program) (stream_names tokens (names program)) word stream
+  pub is_named : IsNamed text (streams program) (stream_names tokens (names program)) word stream
   pub are_elements : AreElements task_budget control_budget program input stream first count told own
 
 -- A word names no stream of a text's program.
@@ -42,4 +42,4 @@ pub record NamesNone (text word : List ℕ) : Type 0 where
   pub is_program : IsAccepted text program
   pub tokens : List Token
   pub cover : IsTokenCover text tokens
-  pub none : IsNoneOf text (streams program) word (stream_names tokens (names program))
+  pub none : NamesNoStream text (streams program) (stream_names tokens (names program)) word

@@ -1,5 +1,5 @@
--- What a reader believes: where the names of streams stand, what is told of a run, of a stream and of steps, what is drawn of a run, and
--- what a call leaves.
+-- What a reader believes: where the names of streams stand, what is told of a run, of a stream and of steps, what is drawn of a run, what
+-- explains an activation, and what a call leaves.
 pub mod StreamNames
 pub mod Told
 pub mod Answers
@@ -9,6 +9,8 @@ pub mod Steps
 pub mod AnswersSteps
 pub mod Drawn
 pub mod AnswersGraph
+pub mod Explanation
+pub mod AnswersExplain
 -- What restates private functions.
 pub mod Source
 pub mod Streams

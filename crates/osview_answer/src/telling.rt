@@ -15,7 +15,7 @@ use epoch_run_bodies::laws::agreeing_bodies_mean_one;
 use os_io::{Files, Memory};
 use osrun_core_jobs::{Job, Refusal, Status, Terms};
 use osrun_core_run::run_code;
-use osview_sentences::report_text;
+use osview_sentences::{ToldRun, report_text};
 use std::alloc::Global;
 use std::thread::Threads;
 use task_workers::Gate;
@@ -27,7 +27,7 @@ pub(crate) struct RunAnswer {
     pub(crate) status: Status,
 }
 
-/// Runs a program over an input, and tells what the run came to. The control program runs a second time, for the sites of its
+/// Runs a program over an input, and tells what the run came to. The control program runs a second time, for its
 /// activations.
 pub(crate) fn tell_run<R: Threads + Sync, G: Gate>(
     rt: &R,
@@ -54,15 +54,15 @@ pub(crate) fn tell_run<R: Threads + Sync, G: Gate>(
         terms.control_budget,
     )?;
     let lines = task_lines(alloc, &source.code, control.activations.as_slice())?;
-    let text = report_text(
-        alloc,
-        &source.text,
-        &names,
-        &lines,
-        &run.layout,
-        &run.ends,
-        run.control,
-    )?;
+    let told = ToldRun {
+        text: &source.text,
+        names: &names,
+        lines: &lines,
+        activations: control.activations.as_slice(),
+        layout: &run.layout,
+        ends: &run.ends,
+    };
+    let text = report_text(alloc, &told, run.control)?;
     Ok(RunAnswer {
         text,
         status: run.status(),

@@ -8,19 +8,16 @@ use Rattle.std.specs.Prelude.{◌==◌}
 use Rattle.std.specs.List.{flat_map, list_any, range_with_len}
 use Rattle.std.specs.Option.{option_map_or}
 use Rattle.os_io.specs.Lines.{ended_line}
-use Rattle.osview_sentences.specs.Readers.{also_text}
 use Rattle.osview_sentences.specs.Report.{line_at, more_text, told_at}
-use Rattle.osview_sentences.specs.Sentences.{is_alike, is_same, is_supplied_so, sentence_text}
+use Rattle.osview_sentences.specs.Sentences.{is_alike, is_same, is_supplied_so}
 use Rattle.osview_sentences.specs.Tally.{left, told_for}
 use Rattle.osview_sentences.specs.declared.fact.Fact.{Fact}
 use Rattle.osview_sentences.specs.declared.fact.Fact.TheVariants as fact
 use Rattle.osview_sentences.specs.declared.fact.Sentence.{Sentence}
 use Rattle.osview_sentences.specs.declared.fact.Supply.{Supply}
 use Rattle.osview_sentences.specs.declared.fact.Supply.TheVariants as supply
-use Rattle.osview_sentences.specs.declared.stream_name.StreamName.{StreamName}
 use Rattle.osview_sentences.specs.declared.tally.Tally.{Tally}
 use Rattle.osview_sentences.proofs.Stretches.{one_more}
-use Rattle.stream_match_layouts.specs.declared.span.Span.{Span}
 
 so_itself : (by : Supply) → is_supplied_so by by ≡ true
 so_itself supply.Ended = refl
@@ -73,34 +70,34 @@ told_count told n m e =
     let less : n - 1 ≡ m = omega (arith, e) in
     ap (λ (b : Bool). cond b [] (told (n - 1))) some ∙ ap told less
 
-module _ (text : List ℕ) (names : List StreamName) (spans : List Span) (lines : List ℕ) where
+module _ (say : Sentence → List ℕ) where
   told_so : (all : List Sentence) (i : ℕ) (s : Sentence) (count : ℕ) (b : Bool) → list_any (is_alike s) (take i all) ≡ b
       → (b ≡ false → count_by (is_alike s) all ≡ suc (count_by (is_alike s) (drop (i + 1) all)))
-      → count ≡ cond b 0 (count_by (is_alike s) all) → told_for text names spans lines s count ≡ told_at text names spans lines all i s
-  told_so all i s count true among is e = ap (told_for text names spans lines s) e ∙ when_among (list_any (is_alike s) (take i all)) true _ among
+      → count ≡ cond b 0 (count_by (is_alike s) all) → told_for say s count ≡ told_at say all i s
+  told_so all i s count true among is e = ap (told_for say s) e ∙ when_among (list_any (is_alike s) (take i all)) true _ among
   told_so all i s count false among is e =
-      told_count (λ (more : ℕ). ended_line (sentence_text text names s ++ also_text spans lines s.task_line s.fact ++ more_text more)) count (count_by (is_alike s) (drop (i + 1) all)) (e ∙ is refl)
+      told_count (λ (more : ℕ). ended_line (say s ++ more_text more)) count (count_by (is_alike s) (drop (i + 1) all)) (e ∙ is refl)
       ∙ when_among (list_any (is_alike s) (take i all)) false _ among
 
   -- what is told of a sentence for those that are left
   pub told_here : (all : List Sentence) (i : ℕ) (d : Sentence) (count : ℕ) → i < length all
       → count ≡ cond (list_any (is_alike (get_or all i d)) (take i all)) 0 (count_by (is_alike (get_or all i d)) all)
-      → told_for text names spans lines (get_or all i d) count ≡ line_at text names spans lines all i
+      → told_for say (get_or all i d) count ≡ line_at say all i
   told_here all i d count lt e =
       let s = get_or all i d in
       told_so all i s count (list_any (is_alike s) (take i all)) refl (λ none. first_counted (is_alike s) all i d lt none (alike_itself s)) e
-      ∙ sym (ap (λ (o : Option Sentence). option_map_or (told_at text names spans lines all i) o []) (slice_get-get_or all i d lt))
+      ∙ sym (ap (λ (o : Option Sentence). option_map_or (told_at say all i) o []) (slice_get-get_or all i d lt))
 
   -- one more line
   pub line_told : (all : List Sentence) (i : ℕ) (d : Sentence) (tally : Tally) (old so_far new : List ℕ) (count : ℕ) → i < length all
-      → so_far ≡ old ++ flat_map (line_at text names spans lines all) (range_with_len 0 i)
+      → so_far ≡ old ++ flat_map (line_at say all) (range_with_len 0 i)
       → ((s : Sentence) → left tally s ≡ cond (list_any (is_alike s) (take i all)) 0 (count_by (is_alike s) all))
       → count ≡ left tally (get_or all i d)
-      → new ≡ so_far ++ told_for text names spans lines (get_or all i d) count
-      → new ≡ old ++ flat_map (line_at text names spans lines all) (range_with_len 0 (i + 1))
+      → new ≡ so_far ++ told_for say (get_or all i d) count
+      → new ≡ old ++ flat_map (line_at say all) (range_with_len 0 (i + 1))
   line_told all i d tally old so_far new count lt before rest is now =
-      let f = line_at text names spans lines all in
-      let told = told_for text names spans lines (get_or all i d) count in
+      let f = line_at say all in
+      let told = told_for say (get_or all i d) count in
       let fronts = flat_map f (range_with_len 0 i) in
       now ∙ ap (λ (x : List ℕ). x ++ told) before ∙ append_assoc old fronts told
       ∙ ap (λ (x : List ℕ). old ++ (fronts ++ x)) (told_here all i d count lt (is ∙ rest (get_or all i d)))

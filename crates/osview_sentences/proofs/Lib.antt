@@ -4,4 +4,5 @@ pub mod Codes
 pub mod Counted
 pub mod Joined
 pub mod LeftOver
+pub mod Producing
 pub mod Stretches

@@ -3,7 +3,13 @@ pub mod Facts
 pub mod Names
 pub mod Sentences
 pub mod Readers
+pub mod Amounts
+pub mod Passing
+pub mod Whole
 pub mod Report
--- What restates private functions: how sentences are counted, and which tasks read a stream.
+-- What restates private functions: how sentences are counted, which tasks read a stream, how far streams are read, and what sentences
+-- are told over.
 pub mod FirstReaders
+pub mod Reaches
 pub mod Tally
+pub mod Contexts

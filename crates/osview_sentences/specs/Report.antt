@@ -15,12 +15,12 @@ use Rattle.flow_core_laws.specs.declared.control.ControlEnd.{ControlEnd}
 use Rattle.flow_core_laws.specs.declared.control.ControlEnd.TheVariants as control_end
 use Rattle.flow_core_laws.specs.declared.ends.Ends.{Ends}
 use Rattle.osview_sentences.specs.Facts.{sentences}
-use Rattle.osview_sentences.specs.Readers.{also_text, spans_of}
-use Rattle.osview_sentences.specs.Sentences.{is_alike, sentence_text, trap_text}
+use Rattle.osview_sentences.specs.Passing.{passing_lines}
+use Rattle.osview_sentences.specs.Sentences.{is_alike, trap_text}
+use Rattle.osview_sentences.specs.Whole.{whole_text}
 use Rattle.osview_sentences.specs.declared.fact.Sentence.{Sentence}
 use Rattle.osview_sentences.specs.declared.stream_name.StreamName.{StreamName}
 use Rattle.osview_text.specs.Words.{activation_word}
-use Rattle.stream_match_layouts.specs.declared.span.Span.{Span}
 
 -- how many more sentences are like the one that is told
 abbrev pub likewise_text : ℕ → List ℕ
@@ -29,18 +29,19 @@ likewise_text more = codes "; likewise " ++ decimal more ++ codes " more of this
 abbrev pub more_text : ℕ → List ℕ
 more_text more = if more == 0 then [] else likewise_text more
 
--- a sentence of some: it is told where none before it is like it, with the number of those behind it that are
-abbrev pub told_at : List ℕ → List StreamName → List Span → (lines : List ℕ) → List Sentence → (place : ℕ) → Sentence → List ℕ
-told_at text names spans lines all place s =
+-- a sentence of some, where `say` has the text of each: it is told where none before it is like it, with the number of those behind it
+-- that are
+abbrev pub told_at : (say : Sentence → List ℕ) → List Sentence → (place : ℕ) → Sentence → List ℕ
+told_at say all place s =
     if list_any (is_alike s) (take place all) then []
-    else ended_line (sentence_text text names s ++ also_text spans lines s.task_line s.fact ++ more_text (count_by (is_alike s) (drop (place + 1) all)))
+    else ended_line (say s ++ more_text (count_by (is_alike s) (drop (place + 1) all)))
 
-abbrev pub line_at : List ℕ → List StreamName → List Span → (lines : List ℕ) → List Sentence → (place : ℕ) → List ℕ
-line_at text names spans lines all place = option_map_or (told_at text names spans lines all place) (slice_get all place) []
+abbrev pub line_at : (say : Sentence → List ℕ) → List Sentence → (place : ℕ) → List ℕ
+line_at say all place = option_map_or (told_at say all place) (slice_get all place) []
 
 -- The lines of sentences: one for those that are alike, where the first of them stands.
-abbrev pub sentence_lines : List ℕ → List StreamName → List Span → (lines : List ℕ) → List Sentence → List ℕ
-sentence_lines text names spans lines all = flat_map (line_at text names spans lines all) (range_with_len 0 (length all))
+abbrev pub sentence_lines : (say : Sentence → List ℕ) → List Sentence → List ℕ
+sentence_lines say all = flat_map (line_at say all) (range_with_len 0 (length all))
 
 -- how many activations `main` created
 abbrev pub created_text : ℕ → List ℕ
@@ -79,8 +80,10 @@ heading control activations done there claimed =
     ++ ended_line (share_text there claimed (codes " bytes of the output are there"))
 
 -- The report, over the text of a program, the names of its streams, and the line of each activation's task: how `main` ended,
--- how many activations are done, how many bytes of the output are there, and what became of the other activations.
+-- how many activations are done, how many bytes of the output are there, which activations leave elements out, and what became of
+-- those that aren't done.
 abbrev pub report : List ℕ → List StreamName → (lines : List ℕ) → List Activation → (input_len : ℕ) → Ends → ControlEnd → List ℕ
 report text names lines activations input_len ends control =
     heading control (length activations) (count_by has_done ends.ends) (length (written ends.output)) (written_count activations 1)
-    ++ sentence_lines text names (spans_of activations) lines (sentences activations input_len ends.ends lines)
+    ++ passing_lines text names lines activations
+    ++ sentence_lines (whole_text text names lines activations input_len) (sentences activations input_len ends.ends lines)

@@ -72,11 +72,13 @@ fact_text text names fact.OverBudget = codes "used up its turns"
 fact_text text names (fact.Poisoned root) = codes "never ran, since activation " ++ decimal root ++ codes " failed"
 fact_text text names (fact.Waits stream position by) = waits_text (stream_text text names stream) position by
 
--- What is said of an activation.
+-- of which activation something is said
+abbrev pub who_text : (a line : ℕ) → List ℕ
+who_text a line = codes "activation " ++ decimal a ++ codes ", of the task in line " ++ decimal line ++ codes ", "
+
+-- What became of an activation.
 abbrev pub sentence_text : List ℕ → List StreamName → Sentence → List ℕ
-sentence_text text names s =
-    codes "activation " ++ decimal s.activation ++ codes ", of the task in line " ++ decimal s.task_line ++ codes ", "
-    ++ fact_text text names s.fact
+sentence_text text names s = who_text s.activation s.task_line ++ fact_text text names s.fact
 
 -- whether an element is to be given in the same way
 abbrev pub is_supplied_so : Supply → Supply → Bool

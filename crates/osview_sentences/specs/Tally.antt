@@ -2,9 +2,7 @@
 use Rattle.std.specs.Prelude.{ℕ, ◌-◌, ◌==◌, if◌then◌else◌, List, [], ◌++◌, unwrap_or}
 use Rattle.std.specs.BTreeMap.{get}
 use Rattle.os_io.specs.Lines.{ended_line}
-use Rattle.osview_sentences.specs.Readers.{also_text}
 use Rattle.osview_sentences.specs.Report.{more_text}
-use Rattle.osview_sentences.specs.Sentences.{sentence_text}
 use Rattle.osview_sentences.specs.contracts.likeness.LikenessOrd.TheImpl as likeness_order
 use Rattle.osview_sentences.specs.declared.fact.Fact.{Fact}
 use Rattle.osview_sentences.specs.declared.fact.Fact.TheVariants as fact
@@ -16,9 +14,7 @@ use Rattle.osview_sentences.specs.declared.likeness.Way.{Way}
 use Rattle.osview_sentences.specs.declared.likeness.Way.TheVariants as way
 use Rattle.osview_sentences.specs.declared.likeness.What.{What}
 use Rattle.osview_sentences.specs.declared.likeness.What.TheVariants as what
-use Rattle.osview_sentences.specs.declared.stream_name.StreamName.{StreamName}
 use Rattle.osview_sentences.specs.declared.tally.Tally.{Tally}
-use Rattle.stream_match_layouts.specs.declared.span.Span.{Span}
 
 -- how an element is to be given
 abbrev pub way_of : Supply → Way
@@ -43,7 +39,5 @@ abbrev pub left : Tally → Sentence → ℕ
 left tally s = unwrap_or (get (likeness_order.ghosts).cmp tally.counts (likeness s)) 0
 
 -- one sentence for `count` activations that are alike, if there are any
-abbrev pub told_for : List ℕ → List StreamName → List Span → (lines : List ℕ) → Sentence → (count : ℕ) → List ℕ
-told_for text names spans lines s count =
-    if count == 0 then []
-    else ended_line (sentence_text text names s ++ also_text spans lines s.task_line s.fact ++ more_text (count - 1))
+abbrev pub told_for : (say : Sentence → List ℕ) → Sentence → (count : ℕ) → List ℕ
+told_for say s count = if count == 0 then [] else ended_line (say s ++ more_text (count - 1))

@@ -61,7 +61,7 @@ fn ended_by(end: TaskEnd) -> Option<Fact>
 }
 
 /// What became of an activation, if it isn't done.
-fn fact_of(layout: &Layout, ends: &Ends, frame: u32) -> Option<Fact>
+pub(crate) fn fact_of(layout: &Layout, ends: &Ends, frame: u32) -> Option<Fact>
     requires layout { IsLayout layout.now }
     requires exists { frame < frame_count layout.now }
     ensures { (activations : List Activation) → IsLayoutOf layout.now activations

@@ -6,40 +6,27 @@ ghost use Rattle.flow_core_laws.specs.declared.activation.Activation.{Activation
 ghost use Rattle.flow_core_laws.specs.Place.{written_count};
 ghost use Rattle.osview_sentences.specs.Report.{control_text, created_text, heading, likewise_text, limit_text, limit_words};
 ghost use Rattle.osview_sentences.specs.Report.{more_text, report, sentence_lines, share_text};
-ghost use Rattle.osview_sentences.specs.FirstReaders.{AreReaders};
-ghost use Rattle.osview_sentences.specs.Readers.{also_text};
-ghost use Rattle.osview_sentences.specs.Sentences.{sentence_text};
+ghost use Rattle.osview_sentences.specs.Contexts.{IsContext, IsToldRun, say_over};
+ghost use Rattle.osview_sentences.specs.Facts.{sentences};
 ghost use Rattle.osview_sentences.specs.Tally.{told_for};
 ghost use Rattle.stream_match_layouts.specs.Layout.{IsLayout, IsLayoutOf};
 
-use crate::fact::{Fact, Sentence};
+use crate::amounts::Asked;
+use crate::context::{Context, add_whole};
+use crate::fact::Sentence;
 use crate::finding::sentences;
-use crate::readers::{Readers, add_also};
-use crate::stream_name::StreamName;
+use crate::passing::add_passing;
+use crate::readers::Readers;
 use crate::tally::Tally;
-use crate::wording::{add_sentence, trap_text};
+use crate::told_run::ToldRun;
+use crate::wording::trap_text;
 use c_int::ControlLimit;
 use collector::written_length;
 use flow_core_laws::{ControlEnd, Ends, TaskEnd};
 use os_io::Memory;
 use osview_text::{Text, activation_word};
 use std::alloc::Global;
-use stream_match_layouts::{Layout, Span};
-
-/// What sentences are told over.
-#[derive(Clone, Copy)]
-struct Context<'a> {
-    /// The text of the program.
-    text: &'a [u8],
-    /// Where the names of the streams stand in it.
-    names: &'a [StreamName],
-    /// The claims of all activations.
-    spans: &'a [Span],
-    /// The line of each activation's task.
-    lines: &'a [u32],
-    /// Which tasks read which streams, by these claims and lines.
-    readers: &'a Readers,
-}
+use stream_match_layouts::Layout;
 
 /// What is counted in a run.
 #[derive(Clone, Copy)]
@@ -154,27 +141,17 @@ fn add_share_line(told: &mut Text, some: u64, all: u64, what: &[u8]) -> Result<(
     told.add(b"\n")
 }
 
-/// Adds what else is to be said of what became of an activation whose task stands in this line.
-fn add_also_over(told: &mut Text, over: &Context<'_>, at: u32, fact: Fact) -> Result<(), Memory>
-    requires { AreReaders over.now.spans.now over.now.lines.now over.now.readers.now }
-    ensures { OnOk result (told.new ≡ told.old ++ also_text over.now.spans.now over.now.lines.now at fact) }
-{
-    add_also(told, over.readers, at, fact)
-}
-
-/// Adds a sentence with what else is to be said and the number of those that are like it, as a line.
+/// Adds all that is said of an activation with the number of those that are like it, as a line.
 fn add_sentence_line(
     told: &mut Text,
     over: &Context<'_>,
     sentence: Sentence,
     more: u64,
 ) -> Result<(), Memory>
-    requires { AreReaders over.now.spans.now over.now.lines.now over.now.readers.now }
-    ensures { OnOk result (told.new ≡ told.old ++ ended_line (sentence_text over.now.text.now over.now.names.now sentence
-        ++ also_text over.now.spans.now over.now.lines.now sentence.task_line sentence.fact ++ more_text more)) }
+    requires { IsContext over.now }
+    ensures { OnOk result (told.new ≡ told.old ++ ended_line (say_over over.now.run sentence ++ more_text more)) }
 {
-    add_sentence(told, over.text, over.names, sentence)?;
-    add_also_over(told, over, sentence.task_line, sentence.fact)?;
+    add_whole(told, over, sentence)?;
     add_more(told, more)?;
     told.add(b"\n")?;
     Ok(())
@@ -187,9 +164,8 @@ fn add_told_for(
     sentence: Sentence,
     count: u64,
 ) -> Result<(), Memory>
-    requires { AreReaders over.now.spans.now over.now.lines.now over.now.readers.now }
-    ensures { OnOk result (told.new ≡ told.old
-        ++ told_for over.now.text.now over.now.names.now over.now.spans.now over.now.lines.now sentence count) }
+    requires { IsContext over.now }
+    ensures { OnOk result (told.new ≡ told.old ++ told_for (say_over over.now.run) sentence count) }
 {
     if count == 0 {
         Ok(())
@@ -205,9 +181,8 @@ fn add_lines(
     over: &Context<'_>,
     all: &[Sentence],
 ) -> Result<(), Memory>
-    requires { AreReaders over.now.spans.now over.now.lines.now over.now.readers.now }
-    ensures { OnOk result (told.new ≡ told.old
-        ++ sentence_lines over.now.text.now over.now.names.now over.now.spans.now over.now.lines.now all.now) }
+    requires { IsContext over.now }
+    ensures { OnOk result (told.new ≡ told.old ++ sentence_lines (say_over over.now.run) all.now) }
 {
     let mut tally = Tally::of(alloc, all)?;
     for sentence in all {
@@ -215,6 +190,23 @@ fn add_lines(
         add_told_for(told, over, *sentence, count)?;
     }
     Ok(())
+}
+
+/// Adds the lines of what became of the activations of a run that aren't done.
+fn add_sentences(told: &mut Text, alloc: Global, run: &ToldRun<'_>) -> Result<(), Memory>
+    requires { IsToldRun run.now }
+    ensures { OnOk result (told.new ≡ told.old
+        ++ sentence_lines (say_over run.now) (sentences run.now.activations.now run.now.layout.now.input_len run.now.ends.now.ends run.now.lines.now)) }
+{
+    let all = sentences(alloc, run.layout, run.ends, run.lines)?;
+    let readers = Readers::of(alloc, run.layout.spans.as_slice(), run.lines)?;
+    let asked = Asked::of(alloc, run.layout)?;
+    let over = Context {
+        run: *run,
+        readers: &readers,
+        asked: &asked,
+    };
+    add_lines(told, alloc, &over, &all)
 }
 
 /// Adds the lines before those of the sentences.
@@ -272,33 +264,16 @@ fn count_all(layout: &Layout, ends: &Ends) -> Counts
     }
 }
 
-/// The report of a run in sentences: how `main` ended, how many activations are done, how many bytes of the output are there, and
-/// what became of the other activations. `lines` has the line of each activation's task, and `names` where the names of the streams
-/// stand in `text`.
-pub fn report_text(
-    alloc: Global,
-    text: &[u8],
-    names: &[StreamName],
-    lines: &[u32],
-    layout: &Layout,
-    ends: &Ends,
-    control: ControlEnd,
-) -> Result<Vec<u8>, Memory>
-    requires { IsLayout layout.now }
-    ensures { IfOk result (λ told. (activations : List Activation) → IsLayoutOf layout.now activations
-        → told.items ≡ report text.now names.now lines.now activations layout.now.input_len ends.now control) }
+/// The report of a run in sentences: how `main` ended, how many activations are done, how many bytes of the output are there, which
+/// activations leave elements of a stream out, and what became of those that aren't done.
+pub fn report_text(alloc: Global, run: &ToldRun<'_>, control: ControlEnd) -> Result<Vec<u8>, Memory>
+    requires { IsToldRun run.now }
+    ensures { IfOk result (λ told. told.items ≡ report run.now.text.now run.now.names.now run.now.lines.now run.now.activations.now
+        run.now.layout.now.input_len run.now.ends.now control) }
 {
-    let all = sentences(alloc, layout, ends, lines)?;
     let mut told = Text::new(alloc);
-    add_heading(&mut told, control, count_all(layout, ends))?;
-    let readers = Readers::of(alloc, layout.spans.as_slice(), lines)?;
-    let over = Context {
-        text,
-        names,
-        spans: layout.spans.as_slice(),
-        lines,
-        readers: &readers,
-    };
-    add_lines(&mut told, alloc, &over, &all)?;
+    add_heading(&mut told, control, count_all(run.layout, run.ends))?;
+    add_passing(&mut told, run)?;
+    add_sentences(&mut told, alloc, run)?;
     Ok(told.into_bytes())
 }

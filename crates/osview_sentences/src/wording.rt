@@ -1,8 +1,7 @@
 ghost use Rattle.std.specs.Prelude.{◌≡◌, ◌++◌, [], OnOk, codes};
-ghost use Rattle.std.specs.Fmt.{decimal};
 ghost use Rattle.osview_sentences.specs.Names.{called, stream_text};
 ghost use Rattle.osview_sentences.specs.Sentences.{element_text, fact_text, from_text, given_text, sentence_text, supply_text};
-ghost use Rattle.osview_sentences.specs.Sentences.{trap_text, trap_words, waits_text};
+ghost use Rattle.osview_sentences.specs.Sentences.{trap_text, trap_words, waits_text, who_text};
 
 use crate::fact::{Fact, Sentence, Supply};
 use crate::stream_name::{StreamName, name_of};
@@ -50,7 +49,12 @@ fn add_called(told: &mut Text, text: &[u8], stream: u32, name: StreamName) -> Re
 }
 
 /// Adds what a stream is called.
-fn add_stream(told: &mut Text, text: &[u8], names: &[StreamName], stream: u32) -> Result<(), Memory>
+pub(crate) fn add_stream(
+    told: &mut Text,
+    text: &[u8],
+    names: &[StreamName],
+    stream: u32,
+) -> Result<(), Memory>
     ensures { OnOk result (told.new ≡ told.old ++ stream_text text.now names.now stream) }
 {
     match name_of(names, stream) {
@@ -214,18 +218,17 @@ fn add_fact(told: &mut Text, text: &[u8], names: &[StreamName], fact: Fact) -> R
     }
 }
 
-/// Adds which activation a sentence is of.
-fn add_who(told: &mut Text, sentence: Sentence) -> Result<(), Memory>
-    ensures { OnOk result (told.new ≡ told.old ++ (codes "activation " ++ decimal sentence.activation
-        ++ codes ", of the task in line " ++ decimal sentence.task_line ++ codes ", ")) }
+/// Adds of which activation something is said.
+pub(crate) fn add_who(told: &mut Text, activation: u32, line: u32) -> Result<(), Memory>
+    ensures { OnOk result (told.new ≡ told.old ++ who_text activation line) }
 {
-    told.field(b"activation ", sentence.activation as u64)?;
-    told.field(b", of the task in line ", sentence.task_line as u64)?;
+    told.field(b"activation ", activation as u64)?;
+    told.field(b", of the task in line ", line as u64)?;
     told.add(b", ")?;
     Ok(())
 }
 
-/// Adds a sentence.
+/// Adds what became of an activation.
 pub(crate) fn add_sentence(
     told: &mut Text,
     text: &[u8],
@@ -234,7 +237,7 @@ pub(crate) fn add_sentence(
 ) -> Result<(), Memory>
     ensures { OnOk result (told.new ≡ told.old ++ sentence_text text.now names.now sentence) }
 {
-    add_who(told, sentence)?;
+    add_who(told, sentence.activation, sentence.task_line)?;
     add_fact(told, text, names, sentence.fact)?;
     Ok(())
 }

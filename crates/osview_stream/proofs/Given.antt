@@ -1,9 +1,9 @@
 -- What is kept of a run gives the elements of the meaning.
-use Rattle.std.proofs.Common.{◌≡◌, ◌∙◌, ◌+◌, ◌-◌, ◌<◌, ℕ, ℤ, [], List, Option, None, Some, ap, map, refl, sym, get_or}
-use Rattle.std.specs.Prelude.{option_and_then, slice_get}
+use Rattle.std.proofs.Common.{◌≡◌, ◌∙◌, ◌+◌, ◌-◌, ℕ, [], List, Option, None, Some, ap, refl, sym, get_or}
+use Rattle.std.specs.Prelude.{option_and_then}
 use Rattle.std.specs.Option.{option_map, option_map_or}
 use Rattle.flow_core_laws.specs.Element.{fed, nobody, output_at, output_element, element_written}
-use Rattle.flow_core_laws.specs.Outcome.{State, ends_of, outcome_at, root_of}
+use Rattle.flow_core_laws.specs.Outcome.{State, outcome_at, root_of}
 use Rattle.flow_core_laws.specs.Streams.{own_number, produced_source, stream_element}
 use Rattle.flow_core_laws.specs.Window.{Window, producer}
 use Rattle.flow_core_laws.specs.declared.activation.Activation.{Activation}

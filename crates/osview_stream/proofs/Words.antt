@@ -1,12 +1,12 @@
 -- Words that name a stream.
-use Rattle.std.proofs.Common.{◌≡◌, ◌∙◌, ◌+◌, ◌-◌, ◌<◌, ◌≤◌, ◌^◌, ◌++◌, ◌∷◌, ℕ, [], List, Option, None, Some, Bool, true, false, cond, codes, ap, append_assoc, sym, subst, arith}
-use Rattle.std.specs.Prelude.{◌==◌, ◌&&◌, IfNone, nat_le, nat_lt}
+use Rattle.std.proofs.Common.{◌≡◌, ◌∙◌, ◌+◌, ◌-◌, ◌<◌, ◌≤◌, ◌^◌, ◌++◌, ℕ, List, Option, None, Some, false, cond, codes, ap, append_assoc, sym, arith}
+use Rattle.std.specs.Prelude.{◌==◌, ◌&&◌, IfNone, nat_lt}
 use Rattle.std.specs.Fmt.{decimal}
 use Rattle.std.proofs.lemmas.Bool.{le-leb, lt-ltb}
 use Rattle.std.proofs.lemmas.Bool.Decides.{nat_tests}
 use Rattle.std.proofs.lemmas.Fmt.{decimal_injective}
 use Rattle.std.proofs.lemmas.List.{append_cancel_left, append_cancel_right}
-use Rattle.osview_sentences.specs.Names.{called, covers, slice}
+use Rattle.osview_sentences.specs.Names.{called, slice}
 use Rattle.osview_sentences.specs.declared.stream_name.StreamName.{StreamName}
 use Rattle.osview_stream.specs.Called.{IsOf}
 

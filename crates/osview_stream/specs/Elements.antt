@@ -11,7 +11,6 @@ use Rattle.flow_core_laws.specs.Window.{Window, producer}
 use Rattle.flow_core_laws.specs.declared.activation.Activation.{Activation}
 use Rattle.flow_core_laws.specs.declared.elem.Elem.{Elem}
 use Rattle.flow_core_laws.specs.declared.elem.Elem.TheVariants.{Poison, Value}
-use Rattle.flow_core_laws.specs.declared.place.Place.{Place}
 
 -- the element at a position of a stream in a state of the activations, if it is there
 abbrev pub element_at : List Activation → (input : List ℕ) → State → (stream position : ℕ) → Option Elem

@@ -1,7 +1,7 @@
 ghost use Rattle.std.specs.Prelude.{◌≡◌, ◌≢◌, ◌++◌, ◌<◌, ◌≤◌, ◌^◌, ℕ, List, IfNone, IfSome, codes, false, ◌==◌, length};
 ghost use Rattle.std.specs.Fmt.{decimal};
 ghost use Rattle.osview_sentences.specs.Names.{slice};
-ghost use Rattle.osview_stream.specs.Called.{IsCalled, IsNoneOf, IsOf};
+ghost use Rattle.osview_stream.specs.Called.{IsCalled, IsNamed, IsNoneOf, IsOf, NamesNoStream, standard_stream};
 
 use os_io::parse_decimal;
 use osview_sentences::StreamName;
@@ -80,9 +80,8 @@ fn stream_of(text: &[u8], streams: u32, word: &[u8], name: StreamName) -> Option
     }
 }
 
-/// The stream that a word names, one of `streams` streams: by their names where they stand in the text of a program. A member of an array
-/// is named with its index in brackets. Where several streams are called so, it is that whose name stands first.
-pub fn called_stream(text: &[u8], streams: u32, names: &[StreamName], word: &[u8]) -> Option<u32>
+/// The stream that the names of a text call so: the one whose name stands first.
+fn stream_in_text(text: &[u8], streams: u32, names: &[StreamName], word: &[u8]) -> Option<u32>
     ensures some { IfSome result (IsCalled text.now streams names.now word.now) }
     ensures none { IfNone result (IsNoneOf text.now streams word.now names.now) }
 {
@@ -92,4 +91,30 @@ pub fn called_stream(text: &[u8], streams: u32, names: &[StreamName], word: &[u8
         }
     }
     None
+}
+
+/// The stream that each program has under this name, whether its text names it or not.
+fn standard_stream(word: &[u8]) -> Option<u32>
+    ensures { result ≡ standard_stream word.now }
+{
+    if word == b"osin".as_slice() {
+        Some(0)
+    } else if word == b"osout".as_slice() {
+        Some(1)
+    } else {
+        None
+    }
+}
+
+/// The stream that a word names, one of `streams` streams: by their names where they stand in the text of a program. A member of an array
+/// is named with its index in brackets. Where several streams are called so, it is that whose name stands first. Each program has the
+/// streams `osin` and `osout`, so that these words name them where the text doesn't name a stream so.
+pub fn called_stream(text: &[u8], streams: u32, names: &[StreamName], word: &[u8]) -> Option<u32>
+    ensures some { IfSome result (IsNamed text.now streams names.now word.now) }
+    ensures none { IfNone result (NamesNoStream text.now streams names.now word.now) }
+{
+    match stream_in_text(text, streams, names, word) {
+        Some(stream) => Some(stream),
+        None => standard_stream(word),
+    }
 }

@@ -2,7 +2,6 @@ ghost use Rattle.std.specs.Prelude.{◌≡◌, ◌<◌, ◌++◌, ℕ, [], List,
 ghost use Rattle.std.specs.Option.{option_map_or};
 ghost use Rattle.flow_core_laws.specs.declared.activation.Activation.{Activation};
 ghost use Rattle.flow_core_laws.specs.Outcome.{State};
-ghost use Rattle.flow_core_laws.specs.Place.{written_count};
 ghost use Rattle.osview_outcomes.specs.Outcomes.{AreOutcomesOf};
 ghost use Rattle.osview_stream.specs.Elements.{activation_text, element_line, element_text, position_count, stream_lines};
 ghost use Rattle.stream_match_layouts.specs.Layout.{IsLayout, IsLayoutOf};
@@ -12,7 +11,7 @@ use collector::producer;
 use flow_core::Elem;
 use os_io::Memory;
 use osview_outcomes::Outcomes;
-use osview_sentences::line_of;
+use osview_sentences::{line_of, written_count};
 use osview_text::Text;
 use std::alloc::Global;
 use stream_match_layouts::{Layout, Span};
@@ -104,19 +103,6 @@ fn add_line(told: &mut Text, over: &Shown<'_>, stream: u32, position: u64) -> Re
         add_input_line(told, over.input, position)
     } else {
         add_produced_line(told, over, stream, position)
-    }
-}
-
-/// How many positions of a stream are claimed for writing.
-fn written_count(layout: &Layout, stream: u32) -> u64
-    requires layout { IsLayout layout.now }
-    ensures exists { 0 < result → stream < length layout.now.writers }
-    ensures count { (activations : List Activation) → IsLayoutOf layout.now activations
-        → result ≡ written_count activations stream }
-{
-    match layout.cursors.writes.as_slice().get(stream as usize) {
-        Some(count) => *count,
-        None => 0,
     }
 }
 

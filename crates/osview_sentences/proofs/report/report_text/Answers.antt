@@ -1,27 +1,26 @@
 use Rattle.std.proofs.Common.{◌∙◌, ◌++◌, ap, count_by, length}
 use Rattle.collector.specs.Status.{has_done}
 use Rattle.collector.specs.Written.{written}
-use Rattle.flow_core_laws.specs.Place.{written_count}
+use Rattle.osview_sentences.specs.Contexts.{say_over}
 use Rattle.osview_sentences.specs.Facts.{sentences}
+use Rattle.osview_sentences.specs.Passing.{passing_lines}
 use Rattle.osview_sentences.specs.Report.{heading, sentence_lines}
 use Rattle.osview_sentences.proofs.report.report_text.Goals as goal
 
 pub returns : goal.returns
-returns c = λ activations of.
+returns c =
+    let run = c.args.run.now in
     let control = c.args.control in
-    let ends = c.args.ends.now in
-    let told = sentence_lines c.args.text.now c.args.names.now in
-    let lines = told c.as_slice-2.result.now c.args.lines.now in
-    let all = c.deref.result.now in
+    let ends = run.ends.now in
+    let activations = run.activations.now in
+    let of = c.requires.laid in
+    let passing = passing_lines run.text.now run.names.now run.lines.now activations in
+    let lines = sentence_lines (say_over run) (sentences activations run.layout.now.input_len ends.ends run.lines.now) in
     let n = c.count_all.result in
     let is = c.count_all.ensures in
-    c.into_bytes.ensures ∙ c.in_ok-add_lines.ensures
-    ∙ ap (λ x. x ++ lines all) (c.in_ok-add_heading.ensures ∙ ap (λ x. x ++ heading control n.activations n.done n.there n.claimed) c.new-told.ensures)
-    ∙ ap (λ k. heading control k n.done n.there n.claimed ++ lines all) (is.activations activations of)
-    ∙ ap (λ k. heading control (length activations) k n.there n.claimed ++ lines all) is.done
-    ∙ ap (λ k. heading control (length activations) (count_by has_done ends.ends) k n.claimed ++ lines all) is.there
-    ∙ ap (λ k. heading control (length activations) (count_by has_done ends.ends) (length (written ends.output)) k ++ lines all) (is.claimed activations of)
-    ∙ ap (λ found. heading control (length activations) (count_by has_done ends.ends) (length (written ends.output)) (written_count activations 1) ++ lines found)
-    (c.deref.ensures.value ∙ c.in_ok-all.ensures activations of)
-    ∙ ap (λ spans. heading control (length activations) (count_by has_done ends.ends) (length (written ends.output)) (written_count activations 1)
-    ++ told spans c.args.lines.now (sentences activations c.args.layout.now.input_len ends.ends c.args.lines.now)) (c.as_slice-2.ensures ∙ of.of_windows.spans)
+    c.into_bytes.ensures ∙ c.in_ok-add_sentences.ensures
+    ∙ ap (λ x. x ++ lines) (c.in_ok-add_passing.ensures ∙ ap (λ x. x ++ passing) (c.in_ok-add_heading.ensures ∙ ap (λ x. x ++ heading control n.activations n.done n.there n.claimed) c.new-told.ensures))
+    ∙ ap (λ k. heading control k n.done n.there n.claimed ++ passing ++ lines) (is.activations activations of)
+    ∙ ap (λ k. heading control (length activations) k n.there n.claimed ++ passing ++ lines) is.done
+    ∙ ap (λ k. heading control (length activations) (count_by has_done ends.ends) k n.claimed ++ passing ++ lines) is.there
+    ∙ ap (λ k. heading control (length activations) (count_by has_done ends.ends) (length (written ends.output)) k ++ passing ++ lines) (is.claimed activations of)

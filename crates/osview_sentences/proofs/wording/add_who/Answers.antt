@@ -6,9 +6,8 @@ use Rattle.osview_sentences.proofs.wording.add_who.Goals as goal
 pub returns : goal.returns
 returns c =
     let old = c.args.told.now in
-    let s = c.args.sentence in
-    let who = codes "activation " ++ decimal s.activation in
+    let who = codes "activation " ++ decimal c.args.activation in
     let task = codes ", of the task in line " in
-    let at = decimal s.task_line in
+    let at = decimal c.args.line in
     behind old (who ++ task ++ at) (codes ", ")
     (behind old who (task ++ at) c.in_ok-field.ensures c.in_ok-field-2.ensures ∙ ap (λ x. old ++ x) (sym (append_assoc who task at))) c.in_ok-add.ensures

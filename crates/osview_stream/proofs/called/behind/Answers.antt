@@ -1,4 +1,4 @@
-use Rattle.std.proofs.Common.{◌≡◌, ◌∙◌, ◌++◌, List, ℕ, ap, length, take}
+use Rattle.std.proofs.Common.{◌≡◌, ◌∙◌, List, ℕ, ap, length, take}
 use Rattle.std.proofs.Math.Seq.{take-append_seam}
 use Rattle.std.specs.Cmp.Lexicographic.{other_text}
 use Rattle.osview_stream.proofs.called.behind.Goals as goal

@@ -1,6 +1,4 @@
-use Rattle.std.proofs.Common.{◌∙◌, ◌++◌, ap, sym}
-use Rattle.std.proofs.lemmas.List.{append_cancel_left}
-use Rattle.osview_stream.proofs.Words.{indexed, none_behind}
+use Rattle.osview_stream.proofs.Words.{none_behind}
 use Rattle.osview_stream.proofs.called.index_behind.Goals as goal
 
 pub returns-in-Some-clause-none : goal.returns-in-Some-clause-none

@@ -1,4 +1,4 @@
-use Rattle.std.proofs.Common.{◌≡◌, ◌∙◌, ◌++◌, OnOk, subst, sym, ℕ}
+use Rattle.std.proofs.Common.{◌≡◌, ◌++◌, OnOk, subst, sym, ℕ}
 use Rattle.osview_stream.specs.Elements.{element_line}
 use Rattle.osview_stream.proofs.lines.add_line.Goals as goal
 

@@ -1,6 +1,6 @@
 use Rattle.std.proofs.Common.{take}
 use Rattle.osview_stream.specs.Called.{IsNoneOf}
-use Rattle.osview_stream.proofs.called.called_stream.Given as goal
+use Rattle.osview_stream.proofs.called.stream_in_text.Given as goal
 
 -- none of the names so far has a stream that is called so
 abbrev pub invariant-loop-name : goal.invariant-loop-name

@@ -1,9 +1,9 @@
-use Rattle.std.proofs.Common.{◌≡◌, ◌∙◌, ◌<◌, ◌≤◌, ap, arith, get_or, length, sym}
+use Rattle.std.proofs.Common.{◌∙◌, ◌<◌, ◌≤◌, ap, arith, get_or, length, sym}
 use Rattle.std.proofs.lemmas.Bool.{ltb-true}
 use Rattle.std.proofs.lemmas.Bool.Decides.{nat_tests}
 use Rattle.std.proofs.lemmas.List.{get_or_default}
-use Rattle.osview_stream.proofs.Producing.{claimed_of, length-writes, none_claimed}
-use Rattle.osview_stream.proofs.lines.written_count.Goals as goal
+use Rattle.osview_sentences.proofs.Producing.{claimed_of, length-writes, none_claimed}
+use Rattle.osview_sentences.proofs.claimed.written_count.Goals as goal
 
 pub returns-in-Some : goal.returns-in-Some
 returns-in-Some c =

@@ -1,10 +1,10 @@
-use Rattle.std.proofs.Common.{◌≡◌, Option, None, Some, refl, ◌∙◌, ◌∷◌, ◌+◌, All, ap, append_assoc, arith, drop, List, ℕ, subst, sym, take, [], ◌++◌, get_or}
+use Rattle.std.proofs.Common.{◌≡◌, Option, None, Some, refl, ◌∙◌, ◌∷◌, ◌+◌, All, ap, append_assoc, drop, List, ℕ, subst, sym, take, [], ◌++◌, get_or}
 use Rattle.std.specs.Prelude.{IfNone}
 use Rattle.std.proofs.lemmas.List.{get_or_default, take-append-drop, take_all, take_more}
 use Rattle.std.proofs.lemmas.List.Elements.{All-more}
 use Rattle.osview_sentences.specs.declared.stream_name.StreamName.{StreamName}
 use Rattle.osview_stream.specs.Called.{IsOf}
-use Rattle.osview_stream.proofs.called.called_stream.Goals as goal
+use Rattle.osview_stream.proofs.called.stream_in_text.Goals as goal
 
 -- what stands for a name where there is none
 no_name : StreamName
