@@ -131,21 +131,21 @@ const WAITING: &str = r"int main(void) {
 /// A program with the turns of `main`, and how often the gate is passed at least and at most: by a batch once, and else by each activation.
 type Case = (&'static str, u64, u32, u32);
 
-/// The first 512 run in an epoch and in control order. `main` of the second one has turns for 7,000 of its loop. The stretch in which one waits, and
+/// The first 256 run in an epoch, and some more in control order. `main` of the second one has turns for 7,000 of its loop. The stretch in which one waits, and
 /// what is created beside it, run in control order up to that one.
 static CASES: [Case; 6] = [
-    (PAIRS, 1_000_000, 512, 2_000),
-    (PAIRS, 7_000, 512, 2_000),
-    (THREES, 1_000_000, 512, 2_000),
-    (CHAINED, 1_000_000, 512, 2_000),
-    (CHAIN, 1_000_000, 512, 2_000),
-    (WAITING, 1_000_000, 512, 15_002),
+    (PAIRS, 1_000_000, 256, 2_000),
+    (PAIRS, 7_000, 256, 2_000),
+    (THREES, 1_000_000, 256, 2_000),
+    (CHAINED, 1_000_000, 256, 2_000),
+    (CHAIN, 1_000_000, 256, 2_000),
+    (WAITING, 1_000_000, 256, 15_002),
 ];
 
-/// More frames than an epoch has, where fewer than 256 activations wait for its new ones.
-const MOST_FRAMES: u32 = 4_096 + 256;
+/// As many activations as two stretches have at most: what is left of one runs with the next one.
+const MOST_FRAMES: u32 = 2 * 8_192;
 
-/// How often it was passed, and the largest number of a frame in its epoch.
+/// How often it was passed, and with which largest number.
 #[derive(Drop)]
 struct Calls {
     count: AtomicU32,
