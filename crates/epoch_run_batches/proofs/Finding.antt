@@ -1,6 +1,6 @@
 -- What is found is meant.
-use Rattle.std.proofs.Common.{◌≡◌, ℕ, ◌+◌, ◌-◌, ◌≤◌, List, [], Some, None, Bool, true, false, cond, pos, refl, sym, ap, ◌∙◌, arith}
-use Rattle.std.specs.Prelude.{nat_le, slice_get, slice_index, slice_index_or}
+use Rattle.std.proofs.Common.{◌≡◌, ℕ, ◌+◌, ◌-◌, ◌≤◌, List, [], Option, Some, None, Bool, true, false, cond, pos, refl, sym, ap, ◌∙◌, arith}
+use Rattle.std.specs.Prelude.{IfSome, nat_le, slice_get, slice_index, slice_index_or}
 use Rattle.std.specs.Option.{option_map_or}
 use Rattle.std.proofs.lemmas.Bool.Decides.{nat_tests}
 use Rattle.flow_core_laws.specs.declared.elem.Elem.{Elem}
@@ -28,3 +28,8 @@ held_is_meant run streams stream position e holds is = by (nat_le first position
 pub byte_is_meant : (run : Run) (input : List ℕ) (position byte : ℕ) → input ≡ run.input → slice_get input position ≡ Some byte → element_meant run 0 position ≡ Some (Value (pos byte))
 byte_is_meant run input position byte is at =
     ap (λ o. stream_element (meant run) (option_map_or (λ b. initial (Value (pos b))) o nobody)) (ap (λ xs. slice_get xs position) (sym is) ∙ at)
+
+-- of what is found something weaker
+pub IfSome-weaker : {X : Type 0} (o : Option X) (P Q : X → Type 0) → ((x : X) → P x → Q x) → IfSome o P → IfSome o Q
+IfSome-weaker None P Q weaker h = h
+IfSome-weaker (Some x) P Q weaker h = weaker x h

@@ -32,7 +32,7 @@ use Rattle.stream_match_layouts.specs.Spans.{write_count}
 use Rattle.stream_match_layouts.proofs.FrameSpans.{claims_in-windows_of, written_spans}
 use Rattle.epoch_run_batches.specs.declared.inputs.Inputs.{Inputs}
 use Rattle.epoch_run_batches.specs.Meant.{Run, element_meant, meant}
-use Rattle.epoch_run_batches.specs.Reads.{AreRead, covered, covered_by}
+use Rattle.epoch_run_batches.specs.Reads.{AreRead, covered, covered_by, values_in}
 use Rattle.epoch_run_batches.specs.Workload.{AreSpansOf, HasOutcome}
 use Rattle.epoch_run_batches.specs.Writes.{AreWritten, HaveOutputs}
 use Rattle.epoch_run_batches.proofs.Meanings.{among_windows, place_meant, settles, writes}
@@ -78,19 +78,19 @@ module _ (run : Run) (number : ℕ) (spans : List Span) (are : AreSpansOf run nu
   }
 
   pub comes_by_body : (inputs : Inputs) (read : AreRead (covered_by run spans) inputs) (body : ℕ → List ℤ → Outcome) (end : TaskEnd) (outputs : List ℤ) → inputs.root ≡ None → body ≡ run.body
-      → end ≡ (body number inputs.values.items).end → (end ≡ Done → outputs ≡ (body number inputs.values.items).outputs) → HasOutcome run number end outputs
+      → end ≡ (body number (values_in inputs)).end → (end ≡ Done → outputs ≡ (body number (values_in inputs)).outputs) → HasOutcome run number end outputs
   comes_by_body inputs read body end outputs none body_is end_is outputs_are = record {
-    outcome = body number inputs.values.items;
+    outcome = body number (values_in inputs);
     is_meant = comes inputs read
         ∙ ap (λ o. Some (option_map_or (λ (r : ℕ). outcome_of (Poisoned r) []) o (run.body number (values_of read.elements)))) (sym read.root_is ∙ none)
         ∙ ap (λ vs. Some (run.body number vs)) (sym read.values_are)
-        ∙ ap (λ (b : ℕ → List ℤ → Outcome). Some (b number inputs.values.items)) (sym body_is);
+        ∙ ap (λ (b : ℕ → List ℤ → Outcome). Some (b number (values_in inputs))) (sym body_is);
     end_is = end_is;
     outputs_are = outputs_are;
   }
 
   -- where nothing is poison it reads as many values as it has inputs
-  pub as_many_values : (inputs : Inputs) → AreRead (covered_by run spans) inputs → inputs.root ≡ None → length inputs.values.items ≡ length (input_places run.activations number)
+  pub as_many_values : (inputs : Inputs) → AreRead (covered_by run spans) inputs → inputs.root ≡ None → length (values_in inputs) ≡ length (input_places run.activations number)
   as_many_values inputs read none =
       let values : read.elements ≡ map Value (values_of read.elements) = others_are_values read.elements (sym read.root_is ∙ none) in
       ap length read.values_are
@@ -115,7 +115,7 @@ module _ (run : Run) (number : ℕ) (spans : List Span) (are : AreSpansOf run nu
 
   -- its body takes it
   pub taken : (takes : ℕ → ℕ → ℕ → Type 0) (inputs : Inputs) (outputs : ℕ) → ServesAll run.activations run.body takes → AreRead (covered_by run spans) inputs → inputs.root ≡ None
-      → outputs ≡ sum_by write_count spans → takes number (length inputs.values.items) outputs
+      → outputs ≡ sum_by write_count spans → takes number (length (values_in inputs)) outputs
   taken takes inputs outputs serves read none outputs_are =
       let x = get_or run.activations number no_activation in
       let at : slice_get run.activations number ≡ Some x = slice_get-get_or run.activations number no_activation are.exists in

@@ -32,6 +32,14 @@ each_meant run stream first offset n g each k e is = by (cases_lt k n)
     by (inl lt) = each k lt ∙ sym (get_or-map-range_with_len g offset n k (offset + k) None lt refl) ∙ is
     by (inr ge) = let h = get_or_past (map g (range_with_len offset n)) k None (omega (arith, length-map-range_with_len g offset n)) in absurd (cc)
 
+-- elements of which each that is there is meant
+pub each_held : (run : Run) (stream first n : ℕ) (g : ℕ → Option Elem) → ((k : ℕ) (e : Elem) → g (first + k) ≡ Some e → element_meant run stream (first + k) ≡ Some e) → AreMeant run stream first (map g (range_with_len first n))
+each_held run stream first n g each k e is = by (cases_lt k n)
+  where
+    by : (k < n) ⊎ (n ≤ k) → element_meant run stream (first + k) ≡ Some e
+    by (inl lt) = each k e (sym (get_or-map-range_with_len g first n k (first + k) None lt refl) ∙ is)
+    by (inr ge) = let h = get_or_past (map g (range_with_len first n)) k None (omega (arith, length-map-range_with_len g first n)) in absurd (cc)
+
 -- what is filled up and then written
 pub written_meant : (run : Run) (stream first from offset n at : ℕ) (xs ys zs : List (Option Elem)) (g : ℕ → Option Elem)
     → first ≤ from → at ≡ from - first → length xs ≤ at → ys ≡ xs ++ replicate (at - length xs) None → zs ≡ ys ++ map g (range_with_len offset n)

@@ -98,12 +98,9 @@ fn end_of<J: Meaning, B: LocalBodies>(
     }
     let count = written_count(spans);
     fit(outputs, count)?;
-    let end = workload.bodies.run(
-        number,
-        inputs.values.as_slice(),
-        outputs.as_mut_slice(),
-        scratch,
-    );
+    let end = workload
+        .bodies
+        .run(number, inputs.values(), outputs.as_mut_slice(), scratch);
     Ok(end)
 }
 

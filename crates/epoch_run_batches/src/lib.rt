@@ -18,6 +18,7 @@ mod batch_outcome;
 mod ended;
 mod inputs;
 mod local_bodies;
+mod places;
 mod slot;
 mod sources;
 mod streams;

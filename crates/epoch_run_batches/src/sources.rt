@@ -1,7 +1,8 @@
-ghost use Rattle.std.specs.Prelude.{◌≡◌, ◌++◌, IfOk, IfSome, List, None, Option, Some, length, true};
+ghost use Rattle.std.specs.Prelude.{◌≡◌, ◌++◌, ◌≤◌, IfOk, IfSome, List, None, Option, Some, length, true};
 ghost use Rattle.flow_core_laws.specs.declared.elem.Elem.{Elem};
 ghost use Rattle.epoch_run_batches.specs.Meant.{HoldMeant, element_meant};
-ghost use Rattle.epoch_run_batches.specs.Reads.{AreRead, covered, covered_by};
+ghost use Rattle.epoch_run_batches.specs.Reads.{AreFound, AreRead, AreReadTo, covered, covered_by};
+ghost use Rattle.epoch_run_batches.specs.declared.inputs.Inputs.{Inputs};
 
 use crate::inputs::Inputs;
 use crate::slot::{Meaning, SlotContent, read_slot};
@@ -60,7 +61,83 @@ impl<'r, J: Meaning> Sources<'r, J> {
         ensures { IfOk result (λ there. there ≡ true → (cells : List (Option Elem)) → AreRead cells inputs.old
             → AreRead (cells ++ covered J.run span.now) inputs.new) }
     {
-        for k in 0..span.count {
+        let done = self.read_leading(own, from, span, inputs)?;
+        self.read_rest(own, from, span, done, inputs)
+    }
+
+    /// Reads the first elements that a span covers, as far as one place has all of its positions. It answers how many elements it read.
+    fn read_leading(
+        &self,
+        own: &Streams,
+        from: &[u32],
+        span: &Span,
+        inputs: &mut Inputs,
+    ) -> Result<u32, Memory>
+        requires as_many { length own.now.firsts ≡ length own.now.elements }
+        requires meant { HoldMeant J.run own.now }
+        ensures few { IfOk result (λ done. done ≤ span.now.count) }
+        ensures read { IfOk result (λ done. AreReadTo J.run span.now done inputs.old inputs.new) }
+    {
+        if span.stream == 0 {
+            self.read_input(span, inputs)
+        } else {
+            self.read_at_once(own, from, span, inputs)
+        }
+    }
+
+    /// Reads what a span of the input covers, if all of it is there. It answers how many elements it read.
+    fn read_input(&self, span: &Span, inputs: &mut Inputs) -> Result<u32, Memory>
+        requires { span.now.stream ≡ 0 }
+        ensures few { IfOk result (λ done. done ≤ span.now.count) }
+        ensures read { IfOk result (λ done. AreReadTo J.run span.now done inputs.old inputs.new) }
+    {
+        let held = self.input.len() as u64;
+        if span.first > held || u64::from(span.count) > held - span.first {
+            return Ok(0);
+        }
+        let first = span.first as usize;
+        inputs.add_bytes(&self.input[first..first + span.count as usize])?;
+        Ok(span.count)
+    }
+
+    /// Reads the first elements that a span covers, as long as they are values, from one place that has all of its positions. It answers how many
+    /// elements it read.
+    fn read_at_once(
+        &self,
+        own: &Streams,
+        from: &[u32],
+        span: &Span,
+        inputs: &mut Inputs,
+    ) -> Result<u32, Memory>
+        requires as_many { length own.now.firsts ≡ length own.now.elements }
+        requires meant { HoldMeant J.run own.now }
+        ensures few { IfOk result (λ done. done ≤ span.now.count) }
+        ensures read { IfOk result (λ done. AreReadTo J.run span.now done inputs.old inputs.new) }
+    {
+        let Some(elements) = self.find_all(own, from, span) else {
+            return Ok(0);
+        };
+        let done = inputs.add_values(elements)?;
+        // The span's count is as many as there are elements, so it is never the smaller one.
+        Ok(span.count.min(done as u32))
+    }
+
+    /// Reads what a span covers after its first `done` elements, one by one, if all of it is there.
+    fn read_rest(
+        &self,
+        own: &Streams,
+        from: &[u32],
+        span: &Span,
+        done: u32,
+        inputs: &mut Inputs,
+    ) -> Result<bool, Memory>
+        requires as_many { length own.now.firsts ≡ length own.now.elements }
+        requires meant { HoldMeant J.run own.now }
+        requires done { done ≤ span.now.count }
+        ensures { IfOk result (λ there. there ≡ true → (was : Inputs) → AreReadTo J.run span.now done was inputs.old
+            → AreReadTo J.run span.now span.now.count was inputs.new) }
+    {
+        for k in done..span.count {
             let Some(position) = span.first.checked_add(u64::from(k)) else {
                 return Ok(false);
             };
@@ -70,6 +147,41 @@ impl<'r, J: Meaning> Sources<'r, J> {
             inputs.add(element)?;
         }
         Ok(true)
+    }
+
+    /// The elements at all positions that a span covers, from the first place that has all of these: what the batch wrote, what the streams held before,
+    /// or one of these slots.
+    fn find_all<'s>(
+        &'s self,
+        own: &'s Streams,
+        from: &[u32],
+        span: &Span,
+    ) -> Option<&'s [Option<Elem>]>
+        requires as_many { length own.now.firsts ≡ length own.now.elements }
+        requires meant { HoldMeant J.run own.now }
+        ensures { IfSome result (λ elements. AreFound J.run span.now elements.now) }
+    {
+        if let Some(elements) = own.find_all(span) {
+            return Some(elements);
+        }
+        if let Some(elements) = self.before.find_all(span) {
+            return Some(elements);
+        }
+        self.find_all_in_slots(from, span)
+    }
+
+    /// The elements at all positions that a span covers, from the first of these slots that has all of them.
+    fn find_all_in_slots(&self, from: &[u32], span: &Span) -> Option<&[Option<Elem>]>
+        ensures { IfSome result (λ elements. AreFound J.run span.now elements.now) }
+    {
+        for batch in from {
+            if let Some(slot) = self.slots.get(*batch as usize) {
+                if let Some(elements) = find_all_in_slot(slot, span) {
+                    return Some(elements);
+                }
+            }
+        }
+        None
     }
 
     /// The element at a position of a stream, if it is there.
@@ -125,4 +237,15 @@ fn find_in_slot<J: Meaning>(
 {
     let content = read_slot(slot)?;
     content.outcome.wrote.find(stream, position)
+}
+
+/// The elements at all positions that a span covers, if a slot is full and has all of them.
+fn find_all_in_slot<'s, J: Meaning>(
+    slot: &'s OnceLock<SlotContent<J>>,
+    span: &Span,
+) -> Option<&'s [Option<Elem>]>
+    ensures { IfSome result (λ elements. AreFound J.run span.now elements.now) }
+{
+    let content = read_slot(slot)?;
+    content.outcome.wrote.find_all(span)
 }

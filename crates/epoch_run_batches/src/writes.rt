@@ -108,6 +108,7 @@ fn add_written(
     requires { root ≡ None → span.now.offset + span.now.count ≤ length outputs.now }
     ensures { OnOk result (elements.new ≡ elements.old ++ written_through root outputs.now span.now) }
 {
+    elements.reserve(span.count as usize)?;
     for k in 0..span.count {
         let place = span.offset as usize + k as usize;
         elements.push(Some(output_element(root, outputs, place)))?;

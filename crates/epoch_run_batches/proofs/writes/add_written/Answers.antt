@@ -10,7 +10,7 @@ loop-k-preserved c =
     let f = output_element c.args.root c.args.outputs.now in
     let offset = c.args.span.now.offset in
     let k = c.loop-k.k in
-    let was : List (Option Elem) = c.args.elements.now in
+    let was : List (Option Elem) = c.reserve.new.self in
     let e : Some c.output_element.result ≡ f (offset + k) = sym c.output_element.ensures in
     c.in_ok-push.ensures.ok
     ∙ ap (λ (xs : List (Option Elem)). xs ++ Some c.output_element.result ∷ []) c.loop-k.invariant

@@ -1,12 +1,16 @@
-use Rattle.std.proofs.Common.{◌≡◌, ◌+◌, ◌++◌, map, arith}
-use Rattle.std.specs.List.{range_with_len}
-use Rattle.epoch_run_batches.specs.Meant.{element_meant}
-use Rattle.epoch_run_batches.proofs.ReadSoFar.{AreRead-one_more}
+use Rattle.std.proofs.Common.{◌≡◌, ◌++◌, List, Bool, true, Option}
+use Rattle.std.proofs.lemmas.Result.{IfOk-weaker}
+use Rattle.flow_core_laws.specs.declared.elem.Elem.{Elem}
+use Rattle.epoch_run_batches.specs.Reads.{AreRead, AreReadTo, covered}
+use Rattle.epoch_run_batches.specs.declared.inputs.Inputs.{Inputs}
 use Rattle.epoch_run_batches.proofs.sources.Sources.read.Goals as goal
 
-pub loop-k-preserved : goal.loop-k-preserved
-loop-k-preserved g c = λ cells r.
-    let f = element_meant g.J.Meaning.run c.args.span.now.stream in
-    let at : c.in-Some.position ≡ c.args.span.now.first + c.loop-k.k = omega (arith, c.in-Some.ensures.1, c.from.ensures) in
-    AreRead-one_more f c.args.span.now.first c.loop-k.k c.in-Some.position cells c.in-Some-find.element c.add.new.self at c.in-Some-find.ensures
-    (c.in_ok-add.ensures (cells ++ map f (range_with_len c.args.span.now.first c.loop-k.k)) (c.loop-k.invariant cells r))
+pub returns : goal.returns
+returns g c =
+    let run = g.J.Meaning.run in
+    let span = c.args.span.now in
+    IfOk-weaker c.read_rest.result
+    (λ (there : Bool). there ≡ true → (was : Inputs) → AreReadTo run span c.in_ok-done.done was c.read_leading.new.inputs → AreReadTo run span span.count was c.read_rest.new.inputs)
+    (λ (there : Bool). there ≡ true → (cells : List (Option Elem)) → AreRead cells c.args.inputs.now → AreRead (cells ++ covered run span) c.read_rest.new.inputs)
+    (λ there p is. p is c.args.inputs.now c.in_ok-done.ensures.read)
+    c.read_rest.ensures
