@@ -84,7 +84,7 @@ module _ (law : Join) (layout : Layout) (run : Run) (of : IsLayoutOf layout run.
     (streams : length elements ≡ length layout.writers)
     (within : length ends ≤ length run.activations) (many : length more ≡ length run.activations - length ends)
     (all_ends : All IsSome more) (ends_meant : AreEndsFrom run (length ends) more) (ends_are : new_ends ≡ ends ++ more)
-    (gathered : AreGathered firsts elements layout outcomes (length elements) parts) (have_more : HaveMore (length elements) parts elements new)
+    (gathered : AreGathered firsts elements layout outcomes (length elements) parts) (have_more : HaveMore (length elements) (λ s. slice_index_or parts s []) elements new)
     (before : HoldAll (take (length ends) run.activations) run.input run.body ends elements firsts) where
   abbrev m : ℕ
   m = length ends

@@ -37,10 +37,10 @@ pub record AreGathered (firsts : List ℕ) (elements : List (List (Option Elem))
       → IsGathered (held_to firsts elements stream) (slice_index layout.cursors.writes stream) outcomes stream (slice_index_or parts stream [])
 
 -- of the streams before a number but the input each has a part more after its elements, and the others have the same
-pub record HaveMore (count : ℕ) (parts before after : List (List (Option Elem))) : Type 0 where
+pub record HaveMore (count : ℕ) (part : (stream : ℕ) → List (Option Elem)) (before after : List (List (Option Elem))) : Type 0 where
   pub as_many : length after ≡ length before
   pub more : (stream : ℕ) → 1 ≤ stream → stream < count → stream < length before
-      → slice_index_or after stream [] ≡ slice_index_or before stream [] ++ slice_index_or parts stream []
+      → slice_index_or after stream [] ≡ slice_index_or before stream [] ++ part stream
   pub same : (stream : ℕ) → count ≤ stream → slice_index_or after stream [] ≡ slice_index_or before stream []
 
 -- the list of the input is empty, and the others are the same

@@ -1,3 +1,4 @@
 -- What restates private functions.
+pub mod Consecutive
 pub mod Ends
 pub mod Gathered

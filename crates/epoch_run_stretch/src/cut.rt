@@ -39,20 +39,23 @@ impl Cut {
         let end = begin
             .saturating_add(self.size.max(1))
             .min(layout.frames() as u32);
+        let own = first_writes(alloc, layout, begin, end)?;
         let mut numbers = List::new(alloc);
         let mut from = List::new(alloc);
         for activation in begin..end {
             numbers.push(activation)?;
-            self.add_sources(&mut from, layout, activation, number)?;
+            self.add_sources(&mut from, layout, own.as_slice(), activation, number)?;
         }
         Ok(Batch { numbers, from })
     }
 
-    /// Adds the batches before the one of a number that write what an activation reads.
+    /// Adds the batches before the one of a number that write what an activation reads. `own` has for each stream the first position that the batch
+    /// itself writes: no earlier batch writes from there on.
     fn add_sources(
         self,
         from: &mut List<u32>,
         layout: &Layout,
+        own: &[u64],
         activation: u32,
         number: u32,
     ) -> Result<(), Memory>
@@ -62,7 +65,7 @@ impl Cut {
             return Ok(());
         }
         for span in layout.spans_of(activation as usize) {
-            if !span.write {
+            if may_be_earlier(own, span) {
                 self.add_sources_of(from, layout, span, number)?;
             }
         }
@@ -113,6 +116,37 @@ impl Cut {
         }
         Ok(())
     }
+}
+
+/// For each stream the first position that activations from one to before another write, or the last one that there is.
+fn first_writes(alloc: Global, layout: &Layout, begin: u32, end: u32) -> Result<List<u64>, Memory>
+    requires { IsLayout layout.now }
+{
+    let mut firsts = List::filled(alloc, u64::MAX, layout.writers.len())?;
+    for activation in begin..end {
+        if (activation as usize) < layout.frames() {
+            lower_to(&mut firsts, layout.spans_of(activation as usize));
+        }
+    }
+    Ok(firsts)
+}
+
+/// Lowers positions to the first ones that spans write.
+fn lower_to(firsts: &mut List<u64>, spans: &[Span]) {
+    for span in spans {
+        let stream = span.stream as usize;
+        if span.write && stream < firsts.len() {
+            let first = firsts.as_slice()[stream];
+            firsts.as_mut_slice()[stream] = first.min(span.first);
+        }
+    }
+}
+
+/// Whether a span reads what activations before a batch may write, where the batch itself writes to the streams from these positions on: nobody
+/// writes the input, and what a batch reads after its own first write it wrote itself.
+fn may_be_earlier(own: &[u64], span: &Span) -> bool {
+    let stream = span.stream as usize;
+    !span.write && stream > 0 && stream < own.len() && span.first < own[stream]
 }
 
 /// The write span that covers a position of a stream.

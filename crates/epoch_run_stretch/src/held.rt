@@ -5,6 +5,7 @@ ghost use Rattle.epoch_run_stretch.specs.Gathered.{AreGathered, HaveMore, HoldAl
 ghost use Rattle.stream_match_layouts.specs.Layout.{IsLayout, IsLayoutOf};
 ghost use Rattle.stream_match_layouts.specs.Spans.{frame_count};
 
+use crate::consecutive::{add_ends, add_streams, all_consecutive};
 use crate::ends::gather_ends;
 use crate::streams::gather_stream;
 use epoch_run_batches::BatchOutcome;
@@ -18,6 +19,37 @@ use stream_match_layouts::Layout;
 /// what these wrote to the streams. `firsts` has the position of the first element that is held of each stream. It answers whether all of that is
 /// there; where it isn't, what is held stays as it was. After `Memory` it may be anything, and the caller gives the run up.
 pub fn gather(
+    alloc: Global,
+    layout: &Layout,
+    outcomes: &[BatchOutcome],
+    ends: &mut List<Option<TaskEnd>>,
+    firsts: &[u64],
+    elements: &mut List<List<Option<Elem>>>,
+) -> Result<bool, Memory>
+    requires layout { IsLayout layout.now }
+    requires streams { length elements.old ≡ length layout.now.writers }
+    requires firsts { length firsts.now ≡ length layout.now.writers }
+    requires within { length ends.old ≤ frame_count layout.now }
+    ensures streams { OnOk result (length elements.new ≡ length elements.old) }
+    ensures all { IfOk result (λ all. all ≡ true → length ends.new ≡ frame_count layout.now) }
+    ensures no_ends { IfOk result (λ all. all ≡ false → ends.new ≡ ends.old) }
+    ensures no_elements { IfOk result (λ all. all ≡ false → elements.new ≡ elements.old) }
+    ensures held { IfOk result (λ all. all ≡ true → (run : Run) → IsLayoutOf layout.now run.activations → AreAllMeant run outcomes.now
+        → HoldAll (take (length ends.old) run.activations) run.input run.body ends.old elements.old firsts.now
+        → HoldAll run.activations run.input run.body ends.new elements.new firsts.now) }
+{
+    apart_and_joined();
+    if all_consecutive(layout, outcomes, ends.len(), firsts, elements.as_slice()) {
+        add_ends(ends, outcomes)?;
+        add_streams(elements, outcomes)?;
+        return Ok(true);
+    }
+    gather_by_places(alloc, layout, outcomes, ends, firsts, elements)
+}
+
+/// The same where what the batches came to isn't consecutive, or something is missing: each end and each element is put in its place, and then it
+/// is seen whether all of them are there.
+fn gather_by_places(
     alloc: Global,
     layout: &Layout,
     outcomes: &[BatchOutcome],
@@ -106,7 +138,7 @@ fn add_parts(
     elements: &mut List<List<Option<Elem>>>,
     parts: &[List<Option<Elem>>],
 ) -> Result<(), Memory>
-    ensures { OnOk result (HaveMore (length elements.old) parts.now elements.old elements.new) }
+    ensures { OnOk result (HaveMore (length elements.old) (λ stream. slice_index_or parts.now stream []) elements.old elements.new) }
 {
     for stream in 1..elements.len() {
         add_part(elements, parts, stream)?;

@@ -9,6 +9,7 @@
 //! they were cut, and by whom they were run, changes nothing. Where all are there, they are all of what the activations mean (`HoldAll`).
 #![tactic(auto)]
 
+mod consecutive;
 mod cut;
 mod ends;
 mod held;
