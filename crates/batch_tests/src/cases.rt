@@ -17,6 +17,8 @@ pub(crate) enum Shape {
     Cycle,
     /// Each of the second half reads what one of the first half wrote.
     Layers,
+    /// The last one reads what all others write to one stream.
+    Join,
 }
 
 /// A run: its activations, the length of its input, and whether some of its bodies fail.
@@ -127,6 +129,7 @@ fn read_by(shape: Shape, number: u32, last: u32) -> Claim {
         Shape::Cycle if number == 0 => read(2, 1, 1),
         Shape::Cycle if number == 1 => read(3, 1, 1),
         Shape::Layers if number > last / 2 => read(2, 1, 1),
+        Shape::Join if number == last && last > 0 => read(2, last, last),
         _ => read(0, 1, 1),
     }
 }
@@ -140,6 +143,7 @@ fn written_by(shape: Shape, number: u32, last: u32) -> Claim {
         Shape::Cycle if number == 0 => 3,
         Shape::Cycle if number == 1 => 2,
         Shape::Layers if number <= last / 2 => 2,
+        Shape::Join if number < last => 2,
         _ => 1,
     };
     Claim {

@@ -4,6 +4,8 @@
 #![tactic(auto)]
 
 #[cfg(test)]
+mod across_slots;
+#[cfg(test)]
 mod cases;
 #[cfg(test)]
 mod empty_slots;

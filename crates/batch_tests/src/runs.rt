@@ -164,7 +164,7 @@ pub(crate) fn range_of(alloc: Global, begin: u32, end: u32) -> Result<List<u32>,
 }
 
 /// Whether batches have these ends, each once, and no others.
-fn are_ends(rt: &impl Abort, outcomes: &[BatchOutcome], ends: &[Option<TaskEnd>]) {
+pub(crate) fn are_ends(rt: &impl Abort, outcomes: &[BatchOutcome], ends: &[Option<TaskEnd>]) {
     let mut number: u32 = 0;
     let mut count: u64 = 0;
     for end in ends {
@@ -205,7 +205,7 @@ fn end_of(outcome: &BatchOutcome, number: u32) -> Option<TaskEnd> {
 }
 
 /// Whether batches have these elements of the output.
-fn are_elements(rt: &impl Abort, outcomes: &[BatchOutcome], output: &[Option<Elem>]) {
+pub(crate) fn are_elements(rt: &impl Abort, outcomes: &[BatchOutcome], output: &[Option<Elem>]) {
     for (position, element) in output.iter().enumerate() {
         assert!(rt; element_in(outcomes, position as u64) == *element);
     }
