@@ -19,6 +19,8 @@ pub(crate) enum Shape {
     Layers,
     /// The last one reads what all others write to one stream.
     Join,
+    /// Three stages by turns: the first reads the input, and each of the others what the one before wrote.
+    Pipeline,
 }
 
 /// A run: its activations, the length of its input, and whether some of its bodies fail.
@@ -130,6 +132,8 @@ fn read_by(shape: Shape, number: u32, last: u32) -> Claim {
         Shape::Cycle if number == 1 => read(3, 1, 1),
         Shape::Layers if number > last / 2 => read(2, 1, 1),
         Shape::Join if number == last && last > 0 => read(2, last, last),
+        Shape::Pipeline if number % 3 == 1 => read(2, 1, 1),
+        Shape::Pipeline if number % 3 == 2 => read(3, 1, 1),
         _ => read(0, 1, 1),
     }
 }
@@ -144,6 +148,8 @@ fn written_by(shape: Shape, number: u32, last: u32) -> Claim {
         Shape::Cycle if number == 1 => 2,
         Shape::Layers if number <= last / 2 => 2,
         Shape::Join if number < last => 2,
+        Shape::Pipeline if number % 3 == 0 => 2,
+        Shape::Pipeline if number % 3 == 1 => 3,
         _ => 1,
     };
     Claim {

@@ -8,6 +8,8 @@ mod across_slots;
 #[cfg(test)]
 mod cases;
 #[cfg(test)]
+mod cuts;
+#[cfg(test)]
 mod empty_slots;
 #[cfg(test)]
 mod runs;

@@ -22,11 +22,12 @@ const BATCHES_EACH: u64 = 4;
 /// How many activations a stretch has at most that is run in batches.
 const STRETCH_ACTIVATIONS: u64 = 8_192;
 
-/// How many steps such a stretch takes at most, about.
-const STRETCH_STEPS: u64 = 3_000_000;
+/// How many steps such a stretch takes at most, about: so many that it costs little to start its threads, and to end them, which look about for some
+/// tenths of a millisecond before they leave.
+const STRETCH_STEPS: u64 = 8_000_000;
 
 /// How many elements the windows of such a stretch have at most, about: what they write is held at once.
-const STRETCH_ELEMENTS: u64 = 65_536;
+const STRETCH_ELEMENTS: u64 = 262_144;
 
 /// How many activations are created before their elements are counted.
 const COUNTED_AT_ONCE: u32 = 64;

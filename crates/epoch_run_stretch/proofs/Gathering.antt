@@ -1,5 +1,5 @@
 -- What was gathered, and what it is put after.
-use Rattle.std.proofs.Common.{◌≡◌, ℕ, zero, suc, ◌+◌, ◌-◌, ◌<◌, ◌≤◌, List, [], ◌∷◌, ◌++◌, Option, Some, None, IsSome, map, take, drop, length, get_or, refl, sym, ap, ◌∙◌, subst, ◌⊎◌, inl, inr, arith}
+use Rattle.std.proofs.Common.{◌≡◌, ℕ, ◌+◌, ◌-◌, ◌<◌, ◌≤◌, List, [], ◌∷◌, ◌++◌, Option, Some, None, IsSome, map, take, drop, length, get_or, refl, sym, ap, ◌∙◌, subst, ◌⊎◌, inl, inr, arith}
 use Rattle.std.specs.Prelude.{All, IfOk, IfSome, Result, Ok, Err, slice_index, slice_index_or}
 use Rattle.std.specs.Option.{option_map}
 use Rattle.std.specs.List.{range_with_len}
@@ -18,15 +18,15 @@ use Rattle.flow_core_laws.specs.Streams.{stream_element, stream_meaning, stream_
 use Rattle.flow_core_laws.proofs.Rounds.{length-meaning}
 use Rattle.flow_core_epochs.proofs.Choosing.{end_in}
 use Rattle.epoch_run_in_order_laws.specs.Apart.{HaveEndedFrom, HoldWritten}
-use Rattle.epoch_run_in_order_laws.specs.InOrder.{HaveAllEnded, HoldElements, elements_on}
+use Rattle.epoch_run_in_order_laws.specs.InOrder.{elements_on}
 use Rattle.epoch_run_in_order_laws.specs.Laws.{AreJoined, Join}
-use Rattle.epoch_run_in_order_laws.proofs.Apart.{length-elements_on, written_within}
+use Rattle.epoch_run_in_order_laws.proofs.Apart.{length-elements_on}
 use Rattle.flow_core_laws.specs.FirstPosition.{write_cursor}
 use Rattle.flow_core_laws.specs.Window.{windows}
 use Rattle.stream_match_layouts.proofs.Windows.{claims_in-windows}
 use Rattle.stream_match_layouts.specs.Layout.{IsLayoutOf, claims_in}
 use Rattle.stream_match_layouts.specs.declared.layout.Layout.{Layout}
-use Rattle.epoch_run_batches.specs.Meant.{AreMeant, Run, end_meant, meant}
+use Rattle.epoch_run_batches.specs.Meant.{AreMeant, Run, meant}
 use Rattle.epoch_run_batches.specs.Outcome.{AreAllMeant}
 use Rattle.epoch_run_batches.specs.declared.batch_outcome.BatchOutcome.{BatchOutcome}
 use Rattle.epoch_run_stretch.specs.Ends.{AreEndsFrom}

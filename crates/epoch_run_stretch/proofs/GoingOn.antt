@@ -1,18 +1,16 @@
 -- Outcomes that go on where the ones before them end.
-use Rattle.std.proofs.Common.{◌≡◌, ℕ, zero, suc, ◌+◌, ◌-◌, ◌<◌, ◌≤◌, List, [], ◌∷◌, ◌++◌, Option, Some, None, IsSome, map, take, length, get_or, refl, sym, ap, ◌∙◌, subst, ◌⊎◌, inl, inr, arith}
+use Rattle.std.proofs.Common.{◌≡◌, ℕ, zero, suc, ◌+◌, ◌-◌, ◌<◌, ◌≤◌, List, [], ◌∷◌, ◌++◌, Option, Some, None, IsSome, map, take, length, refl, sym, ap, ◌∙◌, subst, ◌⊎◌, inl, inr, arith}
 use Rattle.std.specs.Prelude.{All, flat_map, slice_get, slice_index, slice_index_or}
 use Rattle.std.specs.List.{range_with_len}
 use Rattle.std.proofs.lemmas.List.Elements.{All-append}
 use Rattle.std.proofs.lemmas.Bool.{cases_lt}
-use Rattle.std.proofs.lemmas.Grind.{flat_map-append}
 use Rattle.std.proofs.lemmas.List.{append-nil, append_assoc, get_or_append_left, get_or-append_right, length-append, length-map}
 use Rattle.std.proofs.lemmas.List.FromFn.{get_or-map-range_with_len, length-map-range_with_len}
 use Rattle.std.proofs.lemmas.Option.{same_Some, slice_get_within}
 use Rattle.flow_core_laws.specs.declared.elem.Elem.{Elem}
 use Rattle.flow_core_laws.specs.declared.task_end.TaskEnd.{TaskEnd}
 use Rattle.stream_match_layouts.specs.declared.layout.Layout.{Layout}
-use Rattle.epoch_run_batches.specs.Meant.{AreEndsMeant, AreMeant, Run, element_meant, end_meant}
-use Rattle.epoch_run_batches.specs.Outcome.{AreAllMeant}
+use Rattle.epoch_run_batches.specs.Meant.{AreMeant, element_meant, end_meant}
 use Rattle.epoch_run_batches.specs.declared.batch_outcome.BatchOutcome.{BatchOutcome}
 use Rattle.epoch_run_batches.specs.declared.ended.Ended.{Ended}
 use Rattle.epoch_run_stretch.specs.Consecutive.{AreConsecutive, GoOn, GoOnEnds, HaveGoneOn, HaveGoneOnEnds, elements_in, ends_in, ends_of_batch, part_of}

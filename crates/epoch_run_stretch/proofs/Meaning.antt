@@ -1,8 +1,8 @@
 -- What is held of the activations that ran is what all mean.
-use Rattle.std.proofs.Common.{◌≡◌, ℕ, zero, suc, ◌+◌, ◌-◌, ◌<◌, ◌≤◌, List, [], ◌++◌, Option, Some, None, Bool, true, false, take, drop, length, get_or, refl, sym, ap, ◌∙◌, subst, ◌⊎◌, inl, inr, arith, ℤ}
+use Rattle.std.proofs.Common.{◌≡◌, ℕ, zero, suc, ◌+◌, ◌<◌, ◌≤◌, List, [], ◌++◌, Option, Some, None, take, drop, length, get_or, sym, ap, ◌∙◌, subst, ◌⊎◌, inl, inr, arith, ℤ}
 use Rattle.std.specs.Prelude.{slice_index, slice_index_or}
 use Rattle.std.proofs.lemmas.Bool.{cases_lt}
-use Rattle.std.proofs.lemmas.List.{get_or-drop, get_or-map, get_or_past, length-drop, length-map, take-append-drop}
+use Rattle.std.proofs.lemmas.List.{get_or-drop, get_or-map, get_or_past, take-append-drop}
 use Rattle.std.proofs.lemmas.List.FromFn.{get_or-map-range_with_len, length-map-range_with_len}
 use Rattle.flow_core_laws.specs.declared.activation.Activation.{Activation}
 use Rattle.flow_core_laws.specs.declared.elem.Elem.{Elem}
@@ -16,7 +16,7 @@ use Rattle.flow_core_laws.proofs.Elements.{element_kept}
 use Rattle.flow_core_epochs.proofs.Prefixes.{element_more, prefix_extends}
 use Rattle.epoch_run_in_order_laws.specs.InOrder.{elements_on}
 use Rattle.epoch_run_in_order_laws.proofs.Apart.{length-elements_on}
-use Rattle.epoch_run_batches.specs.Meant.{AreMeant, HoldMeant, Run, element_meant}
+use Rattle.epoch_run_batches.specs.Meant.{HoldMeant, Run, element_meant}
 use Rattle.epoch_run_batches.specs.declared.streams.Streams.{Streams}
 use Rattle.epoch_run_stretch.specs.Gathered.{HoldAll, IsCleared}
 

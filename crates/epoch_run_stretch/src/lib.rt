@@ -5,6 +5,9 @@
 //! of what these wrote. It does so where all is there: an end for each activation, and an element for each position that these write. Else what is held
 //! stays as it was, and the stretch is still to run.
 //!
+//! Where each batch goes on where the one before it ends and nothing is missing, what they came to is appended as it stands, with one copy. Else each
+//! end and each element is put in its place, and then it is seen whether all of them are there.
+//!
 //! Nothing has to be known of the batches but that each end and each element is what the run means (`AreAllMeant` of `epoch_run_batches`): how
 //! they were cut, and by whom they were run, changes nothing. Where all are there, they are all of what the activations mean (`HoldAll`).
 #![tactic(auto)]

@@ -1,5 +1,4 @@
-use Rattle.std.proofs.Common.{◌≡◌, [], ◌++◌, List, Option, length, refl, subst, arith}
-use Rattle.std.specs.Prelude.{slice_index_or}
+use Rattle.std.proofs.Common.{List, Option, length, refl, subst, arith}
 use Rattle.flow_core_laws.specs.declared.elem.Elem.{Elem}
 use Rattle.stream_match_layouts.proofs.Tallies.{frame_count-is}
 use Rattle.epoch_run_stretch.specs.Consecutive.{AreConsecutive, ends_in}

@@ -1,4 +1,4 @@
-use Rattle.std.proofs.Common.{◌≡◌, ◌-◌, ◌++◌, [], List, Option, IsSome, length, sym, ap, subst, ◌∙◌, arith}
+use Rattle.std.proofs.Common.{◌≡◌, ◌-◌, ◌++◌, [], List, Option, IsSome, length, ap, subst, ◌∙◌, arith}
 use Rattle.std.specs.Prelude.{All, IfSome, slice_index_or}
 use Rattle.flow_core_laws.specs.declared.elem.Elem.{Elem}
 use Rattle.flow_core_laws.specs.declared.task_end.TaskEnd.{TaskEnd}

@@ -1,6 +1,5 @@
-use Rattle.std.proofs.Common.{◌≡◌, ℕ, List, Option, length, sym, ap, subst, ◌∙◌}
-use Rattle.flow_core_laws.specs.declared.elem.Elem.{Elem}
-use Rattle.epoch_run_batches.specs.Meant.{AreMeant, Run}
+use Rattle.std.proofs.Common.{length, sym, ap, subst, ◌∙◌}
+use Rattle.epoch_run_batches.specs.Meant.{AreMeant}
 use Rattle.epoch_run_stretch.proofs.streams.put_elements.Goals as goal
 use Rattle.epoch_run_stretch.proofs.streams.put_elements.Goals.{in-Some, in_default}
 
