@@ -1,8 +1,13 @@
 #!/usr/bin/env python3
-"""bench/workers.py [RUN ..]: what several workers gain, as a table. Of runs of bench/stops.py, with 65,536 activations, and of `mixing`, a
-pipeline whose bodies have sixteen turns of a loop, it tells the milliseconds of the whole process, from its start to its end, by 1, 2 and 4
-workers: the median of 25 runs made in turn and the least of them, and how many times as fast as one worker 2 and 4 are, by the medians
-and by the least. The output of all is compared byte by byte.
+"""bench/workers.py [RUN ..]: what several workers gain, as a table. Of runs of bench/stops.py, with 65,536 activations, and of
+those below it tells the milliseconds of the whole process, from its start to its end, by 1, 2 and 4 workers: the median of 25 runs made in
+turn and the least of them, and how many times as fast as one worker 2 and 4 are, by the medians and by the least. The output of all is compared byte by byte.
+
+    mixing      a pipeline whose bodies have sixteen turns of a loop
+    stages      three stages over 16,000 bytes, each of which carries a state from activation to activation
+    blocks64    examples/invert.c in blocks of 64 over a megabyte, and blocks4096 in blocks of 4,096
+    wavelet     examples/wavelet.c over a megabyte, whose blocks have 4,096 bytes
+    bodies      256 bodies that read nothing, with 20,000 turns of a loop each
 
 Nothing else may run beside it. Where the processors are those of a shared host, others there make it slower for minutes, and some runs
 of several workers more than those of one: it tells how many runs by 4 workers were slower than the median of those by one.
@@ -49,7 +54,62 @@ MIXING = """int main(void) {
 }
 """
 
-MORE_RUNS = {**RUNS, "mixing": (MIXING, lambda count: count)}
+STAGE = """#pragma omp task input({read} >> x, s{name} >> u) output({write} << y, s{name} << v)
+        {{
+            int k;
+            v = u;
+            for (k = 0; k < 20; k++) v = (v * {by} + x) & 255;
+            y = v;
+        }}
+        """
+
+STAGES = """int main(void) {
+    int a __attribute__((stream)), b __attribute__((stream));
+    int sa __attribute__((stream)), sb __attribute__((stream)), sc __attribute__((stream));
+    int i, x, y, u, v;
+    #pragma omp task output(sa << u)
+    u = 1;
+    #pragma omp task output(sb << u)
+    u = 2;
+    #pragma omp task output(sc << u)
+    u = 3;
+    for (i = 0; i < osin_len; i++) {
+        """ + "".join(
+    STAGE.format(read=read, name=name, write=write, by=by)
+    for read, name, write, by in [("osin", "a", "a", 5), ("a", "b", "b", 7), ("b", "c", "osout", 3)]
+) + """}
+}
+"""
+
+BODIES = """int main(void) {
+    int i, z;
+    for (i = 0; i < 256; i++) {
+        #pragma omp task output(osout << z)
+        {
+            int k;
+            z = i & 255;
+            for (k = 0; k < 20000; k++) z = (z * 3 + k) & 255;
+        }
+    }
+}
+"""
+
+
+def in_blocks(size):
+    """The text of examples/invert.c in blocks of this size."""
+    with open(f"{TOP}/examples/invert.c", encoding="utf-8") as file:
+        return file.read().replace("B = 4", f"B = {size}")
+
+
+MORE_RUNS = {
+    **RUNS,
+    "mixing": (MIXING, lambda count: count),
+    "stages": (STAGES, lambda count: 16_000),
+    "blocks64": (in_blocks(64), lambda count: 1 << 20),
+    "blocks4096": (in_blocks(4096), lambda count: 1 << 20),
+    "wavelet": (None, lambda count: 1 << 20),
+    "bodies": (BODIES, lambda count: 0),
+}
 
 
 def files(name, work):
@@ -97,7 +157,7 @@ def main(names):
     print("| run | 1 | 2 | 4 | times: 2 | 4 | slower |")
     print("|---|---|---|---|---|---|---|")
     with tempfile.TemporaryDirectory() as work:
-        for name in names or ["lift", "mixing", "pipeline", "overlap", "chain", "swapped"]:
+        for name in names or ["lift", "mixing", "pipeline", "overlap", "chain", "swapped", "stages", "blocks64", "blocks4096", "wavelet", "bodies"]:
             program, data = files(name, work)
             compare(name, program, data, work)
             took = {workers: [] for workers in WORKERS}
