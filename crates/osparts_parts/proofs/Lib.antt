@@ -1,0 +1,5 @@
+pub mod Places
+pub mod Counts
+pub mod Given
+pub mod Covering
+pub mod Joining
