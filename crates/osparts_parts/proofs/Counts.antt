@@ -22,17 +22,23 @@ count_none size some =
     let all : 0 + (size - 1) ≡ 0 * size + (size - 1) = omega arith in
     ap (λ (k : ℕ). max 1 (k / size)) all ∙ ap (max 1) (div-mul-add 0 size (size - 1) (omega (arith, some)))
 
+-- an input that is no longer than a part has one
+pub count_one : (size long : ℕ) → 1 ≤ size → long ≤ size → count_of size long ≡ 1
+count_one size zero some short = count_none size some
+count_one size (suc m) some short = count_ends size 0 (suc m) some (omega arith) (omega (arith, short))
+
 -- there are parts for all bytes
 pub record Covers (size long : ℕ) : Type 0 where
   pub others : ℕ
   pub count : count_of size long ≡ suc others
   pub all : long ≤ others * size + size
+  pub begun : others * size ≤ long
 
-covers_by : (size long q : ℕ) → q ≡ (long + (size - 1)) / size → long ≤ q * size → Covers size long
-covers_by size long zero is all =
-    record { others = 0; count = ap (max 1) (sym is); all = omega (arith, all) }
-covers_by size long (suc m) is all =
-    record { others = m; count = ap (max 1) (sym is) ∙ max_one m; all = omega (arith, all, suc-mul m size) }
+covers_by : (size long q : ℕ) → q ≡ (long + (size - 1)) / size → long ≤ q * size → q * size ≤ long + (size - 1) → 1 ≤ size → Covers size long
+covers_by size long zero is all low some =
+    record { others = 0; count = ap (max 1) (sym is); all = omega (arith, all); begun = omega arith }
+covers_by size long (suc m) is all low some =
+    record { others = m; count = ap (max 1) (sym is) ∙ max_one m; all = omega (arith, all, suc-mul m size); begun = omega (arith, low, some, suc-mul m size) }
   where
     max_one : (k : ℕ) → max 1 (suc k) ≡ suc k
     max_one k = omega arith
@@ -42,4 +48,4 @@ covers size long some =
     let q : ℕ = (long + (size - 1)) / size in
     let rest : (long + (size - 1)) % size < size = mod_below (long + (size - 1)) size some in
     let whole : (long + (size - 1)) / size * size + (long + (size - 1)) % size ≡ long + (size - 1) = div-add-mod' (long + (size - 1)) size in
-    covers_by size long ((long + (size - 1)) / size) refl (omega (arith, rest, whole, some))
+    covers_by size long ((long + (size - 1)) / size) refl (omega (arith, rest, whole, some)) (omega (arith, whole)) some

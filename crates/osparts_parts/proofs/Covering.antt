@@ -1,5 +1,7 @@
 -- Parts past their overlaps are the input.
-use Rattle.std.proofs.Common.{◌≡◌, ℕ, zero, suc, ◌+◌, ◌-◌, ◌*◌, ◌<◌, ◌≤◌, List, [], ◌∷◌, ◌++◌, length, map, take, drop, flat_map, All, refl, sym, ap, ap₂, subst, ◌∙◌, arith, suc-mul, append-nil, length-append, length-drop, length-take, length-take-le, take_all, take-take, take-append-drop, drop-drop}
+use Rattle.std.proofs.Common.{◌≡◌, ℕ, zero, suc, ◌+◌, ◌-◌, ◌*◌, ◌<◌, ◌≤◌, List, [], ◌∷◌, ◌++◌, length, map, take, drop, flat_map, refl, sym, ap, ap₂, subst, ◌∙◌, arith, suc-mul, append-nil, length-append, length-drop, length-take, length-take-le, take_all, take-take, take-append-drop, drop-drop, le_refl}
+use Rattle.std.proofs.lemmas.Nat.{mul-le}
+use Rattle.std.specs.List.{AllByRecursion}
 use Rattle.std.proofs.lemmas.List.{map-append, drop-take}
 use Rattle.std.proofs.lemmas.Grind.{flat_map-append}
 use Rattle.osparts_parts.specs.declared.terms.Terms.{Terms}
@@ -8,7 +10,7 @@ use Rattle.osparts_parts.specs.Terms.{AreLawful}
 use Rattle.osparts_parts.specs.Parts.{but_first, count_of, first_numbers, part_at, parts_of, past_overlaps, place_after}
 use Rattle.osparts_parts.specs.Joined.{last_bytes}
 use Rattle.osparts_parts.proofs.Places.{but_first_one_more, place_after_one_more}
-use Rattle.osparts_parts.proofs.Counts.{Covers, covers, count_ends, count_none}
+use Rattle.osparts_parts.proofs.Counts.{Covers, covers, count_one}
 use Rattle.osparts_parts.proofs.Joining.{none_skipped}
 
 -- so many parts
@@ -26,8 +28,9 @@ front_some bytes terms n =
 past_one : (bytes : List ℕ) (terms : Terms) (n : ℕ) → terms.overlap ≤ n * terms.part
     → drop terms.overlap (part_at bytes terms n) ≡ drop (n * terms.part) (take (n * terms.part + terms.part) bytes)
 past_one bytes terms n less =
+    let from : (n * terms.part - terms.overlap) + terms.overlap ≡ n * terms.part = omega (arith, less) in
     drop-drop terms.overlap (n * terms.part - terms.overlap) (take (n * terms.part + terms.part) bytes)
-    ∙ ap (λ (k : ℕ). drop k (take (n * terms.part + terms.part) bytes)) (omega (arith, less))
+    ∙ ap (λ (k : ℕ). drop k (take (n * terms.part + terms.part) bytes)) from
 
 -- a front of the input and the bytes of the next part
 joins_on : (bytes : List ℕ) (a b : ℕ) → take a bytes ++ drop a (take (a + b) bytes) ≡ take (a + b) bytes
@@ -38,7 +41,8 @@ joins_on bytes a b =
 pub front_covers : (bytes : List ℕ) (terms : Terms) (n : ℕ) → AreLawful terms
     → flat_map (λ (part : List ℕ). part) (past_overlaps terms (front bytes terms (suc n))) ≡ take (n * terms.part + terms.part) bytes
 front_covers bytes terms zero lawful =
-    append-nil (part_at bytes terms 0) ∙ ap (λ (k : ℕ). drop k (take (0 * terms.part + terms.part) bytes)) (omega arith)
+    let from : 0 * terms.part - terms.overlap ≡ 0 = omega arith in
+    append-nil (part_at bytes terms 0) ∙ ap (λ (k : ℕ). drop k (take (0 * terms.part + terms.part) bytes)) from
 front_covers bytes terms (suc n) lawful =
     let step : suc n * terms.part ≡ n * terms.part + terms.part = suc-mul n terms.part in
     let less : terms.overlap ≤ suc n * terms.part = omega (arith, step, lawful.overlap_less) in
@@ -67,15 +71,11 @@ plain_parts_cover bytes terms lawful none =
 
 pub one_part : (bytes : List ℕ) (terms : Terms) → AreLawful terms → length bytes ≤ terms.part → parts_of bytes terms ≡ bytes ∷ []
 one_part bytes terms lawful short =
-    let count : count_of terms.part (length bytes) ≡ 1 = count_one (length bytes) short in
+    let count : count_of terms.part (length bytes) ≡ 1 = count_one terms.part (length bytes) lawful.some short in
     let from : 0 * terms.part - terms.overlap ≡ 0 = omega arith in
     ap (front bytes terms) count
     ∙ ap (λ (x : List ℕ). x ∷ [])
     (ap (λ (k : ℕ). drop k (take (0 * terms.part + terms.part) bytes)) from ∙ take_all (0 * terms.part + terms.part) bytes (omega (arith, short)))
-  where
-    count_one : (long : ℕ) → long ≤ terms.part → count_of terms.part long ≡ 1
-    count_one zero short = count_none terms.part lawful.some
-    count_one (suc m) short = count_ends terms.part 0 (suc m) lawful.some (omega arith) (omega (arith, short))
 
 -- no part is longer than its bytes and its overlap
 short_one : (bytes : List ℕ) (terms : Terms) (n : ℕ) → length (part_at bytes terms n) ≤ terms.part + terms.overlap
@@ -83,10 +83,34 @@ short_one bytes terms n =
     omega (arith, length-drop (n * terms.part - terms.overlap) (take (n * terms.part + terms.part) bytes), length-take (n * terms.part + terms.part) bytes)
 
 -- the end of a part is the overlap of the next one
-pub ends_one : (bytes : List ℕ) (terms : Terms) (n : ℕ) → AreLawful terms → suc n < count_of terms.part (length bytes)
+pub ends_one : (bytes : List ℕ) (terms : Terms) → AreLawful terms → (n : ℕ) → suc n < count_of terms.part (length bytes)
     → take terms.overlap (part_at bytes terms (suc n)) ≡ last_bytes terms.overlap (part_at bytes terms n)
-ends_one bytes terms n lawful more =
+ends_one bytes terms lawful n more =
     let c : Covers terms.part (length bytes) = covers terms.part (length bytes) lawful.some in
-    let a : ℕ = n * terms.part + terms.part in
     let step : suc n * terms.part ≡ n * terms.part + terms.part = suc-mul n terms.part in
-    ?
+    let before : suc n * terms.part ≤ c.others * terms.part = mul-le (suc n) terms.part c.others terms.part (omega (arith, c.count, more)) (le_refl terms.part) in
+    let whole : n * terms.part + terms.part ≤ length bytes = omega (arith, c.begun, step, before) in
+    takes_end bytes (suc n * terms.part) (n * terms.part + terms.part) terms.part terms.overlap step (omega (arith, lawful.overlap_less))
+    ∙ sym (drops_end bytes (n * terms.part - terms.overlap) (n * terms.part + terms.part) terms.overlap (omega (arith, lawful.overlap_less)) whole)
+  where
+    takes_end : (bytes : List ℕ) (from past size overlap : ℕ) → from ≡ past → overlap ≤ past
+        → take overlap (drop (from - overlap) (take (from + size) bytes)) ≡ drop (past - overlap) (take past bytes)
+    takes_end bytes from past size overlap is less =
+        let start : from - overlap ≡ past - overlap = omega (arith, is) in
+        let end : (from - overlap) + overlap ≡ past = omega (arith, is, less) in
+        sym (drop-take (from - overlap) overlap (take (from + size) bytes))
+        ∙ ap₂ (λ (a b : ℕ). drop a (take b (take (from + size) bytes))) start end
+        ∙ ap (drop (past - overlap)) (take-take past (from + size) bytes (omega (arith, is)))
+    drops_end : (bytes : List ℕ) (from past overlap : ℕ) → from + overlap ≤ past → past ≤ length bytes
+        → last_bytes overlap (drop from (take past bytes)) ≡ drop (past - overlap) (take past bytes)
+    drops_end bytes from past overlap less within =
+        let count : length (drop from (take past bytes)) ≡ past - from =
+        length-drop from (take past bytes) ∙ ap (λ (k : ℕ). k - from) (length-take-le past bytes within) in
+        let begin : from + (length (drop from (take past bytes)) - overlap) ≡ past - overlap = omega (arith, count, less) in
+        drop-drop (length (drop from (take past bytes)) - overlap) from (take past bytes)
+        ∙ ap (λ (k : ℕ). drop k (take past bytes)) begin
+
+pub all_short : (bytes : List ℕ) (terms : Terms) (numbers : List ℕ)
+    → AllByRecursion (λ (part : List ℕ). length part ≤ terms.part + terms.overlap) (map (part_at bytes terms) numbers)
+all_short bytes terms [] = tt
+all_short bytes terms (n ∷ numbers) = (short_one bytes terms n, all_short bytes terms numbers)

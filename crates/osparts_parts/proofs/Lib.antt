@@ -1,5 +1,6 @@
 pub mod Places
 pub mod Counts
 pub mod Given
+pub mod Held
 pub mod Covering
 pub mod Joining

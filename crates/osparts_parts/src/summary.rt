@@ -1,12 +1,12 @@
-ghost use Rattle.std.specs.Prelude.{◌≡◌, ◌==◌, codes, if◌then◌else◌, IfOk, string_bytes};
-ghost use Rattle.osparts_parts.specs.Summary.{summary_line};
+ghost use Rattle.std.specs.Prelude.{◌≡◌, IfOk, string_bytes};
+ghost use Rattle.osparts_parts.specs.Summary.{plural, summary_line};
 
 use os_io::Memory;
 use std::alloc::Global;
 
 /// What stands after the word for several.
 fn plural(count: u64) -> &'static str
-    ensures { result.now ≡ (if count == 1 then codes "" else codes "s") }
+    ensures { result.now ≡ plural count }
 {
     if count == 1 { "" } else { "s" }
 }
