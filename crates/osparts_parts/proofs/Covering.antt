@@ -101,6 +101,7 @@ ends_one bytes terms lawful n more =
         sym (drop-take (from - overlap) overlap (take (from + size) bytes))
         ∙ ap₂ (λ (a b : ℕ). drop a (take b (take (from + size) bytes))) start end
         ∙ ap (drop (past - overlap)) (take-take past (from + size) bytes (omega (arith, is)))
+
     drops_end : (bytes : List ℕ) (from past overlap : ℕ) → from + overlap ≤ past → past ≤ length bytes
         → last_bytes overlap (drop from (take past bytes)) ≡ drop (past - overlap) (take past bytes)
     drops_end bytes from past overlap less within =

@@ -4,3 +4,4 @@ pub mod Given
 pub mod Held
 pub mod Covering
 pub mod Joining
+pub mod Pieces

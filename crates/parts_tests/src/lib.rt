@@ -1,6 +1,6 @@
-//! Parts of inputs, and outputs that are joined.
+//! Parts of inputs, the terms on which they are cut, and outputs that are joined.
 //!
-//! There is nothing here but tests.
+//! There is nothing here but tests. The parts and the outputs that they want were cut and joined by hand.
 #![tactic(auto)]
 
 #[cfg(test)]
