@@ -1,5 +1,5 @@
 -- How many parts an input has.
-use Rattle.std.proofs.Common.{◌≡◌, ℕ, zero, suc, ◌+◌, ◌-◌, ◌*◌, ◌/◌, ◌%◌, ◌<◌, ◌≤◌, max, refl, sym, ap, ◌∙◌, arith, suc-mul, mod-lt, div-add-mod'}
+use Rattle.std.proofs.Common.{◌≡◌, ℕ, zero, suc, ◌+◌, ◌-◌, ◌*◌, ◌/◌, ◌%◌, ◌<◌, ◌≤◌, max, refl, sym, ap, ◌∙◌, arith, suc-mul, div-add-mod'}
 use Rattle.std.proofs.lemmas.Nat.{div-mul-add, mod_below}
 use Rattle.osparts_parts.specs.Parts.{count_of}
 

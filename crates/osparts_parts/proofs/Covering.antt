@@ -1,5 +1,5 @@
 -- Parts past their overlaps are the input.
-use Rattle.std.proofs.Common.{◌≡◌, ℕ, zero, suc, ◌+◌, ◌-◌, ◌*◌, ◌<◌, ◌≤◌, List, [], ◌∷◌, ◌++◌, length, map, take, drop, flat_map, refl, sym, ap, ap₂, subst, ◌∙◌, arith, suc-mul, append-nil, length-append, length-drop, length-take, length-take-le, take_all, take-take, take-append-drop, drop-drop, le_refl}
+use Rattle.std.proofs.Common.{◌≡◌, ℕ, zero, suc, ◌+◌, ◌-◌, ◌*◌, ◌<◌, ◌≤◌, List, [], ◌∷◌, ◌++◌, length, map, take, drop, flat_map, sym, ap, ap₂, ◌∙◌, arith, suc-mul, append-nil, length-drop, length-take, length-take-le, take_all, take-take, take-append-drop, drop-drop, le_refl}
 use Rattle.std.proofs.lemmas.Nat.{mul-le}
 use Rattle.std.specs.List.{AllByRecursion}
 use Rattle.std.proofs.lemmas.List.{map-append, drop-take}

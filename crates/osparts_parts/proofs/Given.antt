@@ -1,10 +1,8 @@
 -- What a buffer of parts holds after a push, a part and the end.
-use Rattle.std.proofs.Common.{◌≡◌, ℕ, zero, suc, ◌+◌, ◌-◌, ◌*◌, ◌<◌, ◌≤◌, List, [], ◌∷◌, ◌++◌, length, map, take, drop, refl, sym, ap, ap₂, subst, ◌∙◌, arith, suc-mul, append-nil, length-append, length-drop, take_all, drop-drop}
-use Rattle.std.proofs.lemmas.List.{map-append, take-append-le, drop-append-le}
+use Rattle.std.proofs.Common.{◌≡◌, ℕ, zero, suc, ◌+◌, ◌-◌, ◌*◌, ◌≤◌, List, [], ◌∷◌, ◌++◌, length, map, drop, refl, sym, ap, ap₂, ◌∙◌, arith, suc-mul, length-drop, take_all, drop-drop}
+use Rattle.std.proofs.lemmas.List.{map-append, take-append-le}
 use Rattle.osparts_parts.specs.declared.terms.Terms.{Terms}
-use Rattle.osparts_parts.specs.Terms.{AreLawful}
 use Rattle.osparts_parts.specs.Parts.{first_numbers, part_at, parts_of, count_of}
-use Rattle.osparts_parts.proofs.Counts.{count_ends}
 
 -- more bytes change no part that was whole
 pub parts_kept : (pushed more : List ℕ) (terms : Terms) (n : ℕ) → n * terms.part ≤ length pushed

@@ -1,11 +1,11 @@
 -- What a buffer of parts holds after a push, a part and the end.
-use Rattle.std.proofs.Common.{◌≡◌, ℕ, zero, suc, ◌+◌, ◌-◌, ◌*◌, ◌<◌, ◌≤◌, List, [], ◌∷◌, ◌++◌, length, map, take, drop, refl, sym, ap, ap₂, subst, ◌∙◌, arith, suc-mul, append-nil, length-append, length-drop, length-take-le}
+use Rattle.std.proofs.Common.{◌≡◌, ℕ, suc, ◌+◌, ◌-◌, ◌*◌, ◌<◌, ◌≤◌, List, [], ◌∷◌, ◌++◌, length, map, drop, sym, ap, ◌∙◌, arith, suc-mul, append-nil, length-append, length-drop}
 use Rattle.std.proofs.lemmas.List.{drop-append-le}
 use Rattle.osparts_parts.specs.declared.terms.Terms.{Terms}
 use Rattle.osparts_parts.specs.declared.place.PartPlace.{PartPlace}
 use Rattle.osparts_parts.specs.declared.place.PartPlace.TheVariants.{First, Later}
-use Rattle.osparts_parts.specs.Terms.{AreLawful, overlap_in}
-use Rattle.osparts_parts.specs.Parts.{first_numbers, part_at, parts_of, count_of, place_after}
+use Rattle.osparts_parts.specs.Terms.{overlap_in}
+use Rattle.osparts_parts.specs.Parts.{first_numbers, part_at, parts_of, count_of}
 use Rattle.osparts_parts.specs.Progress.{HoldsAfter}
 use Rattle.osparts_parts.proofs.Counts.{count_ends, count_one}
 use Rattle.osparts_parts.proofs.Places.{length_one_more, place_after_one_more}

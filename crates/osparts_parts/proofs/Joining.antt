@@ -1,11 +1,11 @@
 -- What one more output adds.
-use Rattle.std.proofs.Common.{◌≡◌, ℕ, zero, suc, ◌+◌, ◌-◌, ◌≤◌, List, [], ◌∷◌, ◌++◌, length, map, take, drop, get_or, flat_map, refl, sym, ap, ap₂, subst, ◌∙◌, arith, append-nil, length-drop, take_all}
+use Rattle.std.proofs.Common.{◌≡◌, ℕ, ◌-◌, List, [], ◌∷◌, ◌++◌, length, map, take, drop, flat_map, refl, ap, ap₂, ◌∙◌, arith, append-nil, length-drop, take_all}
 use Rattle.std.proofs.lemmas.Grind.{flat_map-append}
 use Rattle.osparts_parts.specs.declared.terms.Terms.{Terms}
-use Rattle.osparts_parts.specs.declared.place.PartPlace.TheVariants.{First, Later}
+use Rattle.osparts_parts.specs.declared.place.PartPlace.TheVariants.{Later}
 use Rattle.osparts_parts.specs.Terms.{skip_in}
 use Rattle.osparts_parts.specs.Parts.{but_first, place_after}
-use Rattle.osparts_parts.specs.Joined.{but_last, last_bytes, joined, state_after, states_of}
+use Rattle.osparts_parts.specs.Joined.{but_last, last_bytes, joined, state_after}
 use Rattle.osparts_parts.proofs.Places.{but_first_one_more}
 
 -- after some outputs

@@ -1,5 +1,5 @@
 -- Lists to which one more is added at the end.
-use Rattle.std.proofs.Common.{◌≡◌, ℕ, zero, suc, ◌+◌, ◌<◌, List, [], ◌∷◌, ◌++◌, length, map, refl, sym, ap, ◌∙◌, arith}
+use Rattle.std.proofs.Common.{◌≡◌, ℕ, suc, List, [], ◌∷◌, ◌++◌, length, refl, ap}
 use Rattle.std.proofs.lemmas.List.{map-append}
 use Rattle.osparts_parts.specs.declared.place.PartPlace.TheVariants.{Later}
 use Rattle.osparts_parts.specs.Parts.{but_first, place_after}

@@ -1,5 +1,5 @@
 -- What parts are to their input.
-use Rattle.std.specs.Prelude.{◌≡◌, ℕ, suc, ◌+◌, ◌*◌, ◌<◌, ◌≤◌, List, [], ◌∷◌, length, take, flat_map, All}
+use Rattle.std.specs.Prelude.{◌≡◌, ℕ, suc, ◌+◌, ◌<◌, ◌≤◌, List, [], ◌∷◌, length, take, flat_map, All}
 use Rattle.osparts_parts.specs.declared.terms.Terms.{Terms}
 use Rattle.osparts_parts.specs.Terms.{AreLawful}
 use Rattle.osparts_parts.specs.Parts.{count_of, part_at, parts_of, past_overlaps}

@@ -1,5 +1,4 @@
-use Rattle.std.proofs.Common.{◌≡◌, ◌+◌, ◌-◌, ◌≤◌, List, ℕ, length, drop, vec_len, sym, subst, ap, rules, ◌∙◌, arith}
-use Rattle.osparts_parts.specs.Terms.{overlap_in}
+use Rattle.std.proofs.Common.{◌≡◌, ◌-◌, List, ℕ, length, drop, vec_len, sym, subst, ap, rules, ◌∙◌, arith}
 use Rattle.osparts_parts.specs.Progress.{HoldsAfter}
 use Rattle.osparts_parts.proofs.Held.{part_given}
 use Rattle.osparts_parts.proofs.buffer.PartBuffer.next_part.Goals as goal
