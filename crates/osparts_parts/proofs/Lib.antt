@@ -5,3 +5,4 @@ pub mod Held
 pub mod Covering
 pub mod Joining
 pub mod Pieces
+pub mod Stay

@@ -1,4 +1,5 @@
-ghost use Rattle.std.specs.Prelude.{◌≡◌, ◌+◌, ◌-◌, ◌≤◌, ◌<◌, ◌↔◌, ℕ, List, [], ◌++◌, length, min, take, drop, option_to_list, option_map, vec_len, IfOk, OnErr, None};
+ghost use Rattle.std.specs.Prelude.{◌≡◌, ◌+◌, ◌-◌, ◌<◌, ◌↔◌, ℕ, List, [], ◌++◌, length, min, take, drop};
+ghost use Rattle.std.specs.Prelude.{option_to_list, option_map, vec_len, IfOk, OnErr, None};
 ghost use Rattle.osparts_parts.specs.Terms.{AreLawful, overlap_in};
 ghost use Rattle.osparts_parts.specs.Parts.{parts_of};
 ghost use Rattle.osparts_parts.specs.Progress.{HasGiven};

@@ -1,9 +1,14 @@
 //! Laws of parts. Each is a call that does nothing and ensures its law.
 
-ghost use Rattle.std.specs.Prelude.{◌≡◌, ℕ, List, [], ◌∷◌, ◌++◌};
+ghost use Rattle.std.specs.Prelude.{◌≡◌, ℕ, List, [], ◌∷◌, ◌++◌, length, take};
 ghost use Rattle.osparts_parts.specs.declared.terms.Terms.{Terms};
-ghost use Rattle.osparts_parts.specs.Laws.{OverlapsAreEnds, PartsAreShort, PartsAreTheInput, PlainOutputsAreJoined, PlainPartsAreTheInput, ShortInputsAreOnePart};
+ghost use Rattle.osparts_parts.specs.Laws.{OverlapsAreEnds, PartsAreShort, PartsAreTheInput};
+ghost use Rattle.osparts_parts.specs.Laws.{PlainOutputsAreJoined, PlainPartsAreTheInput, ShortInputsAreOnePart};
+ghost use Rattle.osparts_parts.specs.Parts.{parts_of};
+ghost use Rattle.osparts_parts.specs.Progress.{HasGiven};
 ghost use Rattle.osparts_parts.specs.Joined.{last_bytes, state_after};
+
+use crate::buffer::PartBuffer;
 
 /// Each byte of the input stands in one part past that part's overlap, in order.
 pub fn parts_are_the_input()
@@ -16,6 +21,12 @@ pub fn parts_are_the_input()
 pub fn parts_are_short()
     ensures short { PartsAreShort }
     ensures ends { OverlapsAreEnds }
+{}
+
+/// The parts that a buffer has given are the first ones of the input, whichever bytes come yet.
+pub fn given_parts_stay(buffer: &PartBuffer)
+    ensures { (pushed more : List ℕ) (parts : List (List ℕ)) → HasGiven buffer.now pushed parts →
+        parts ≡ take (length parts) (parts_of (pushed ++ more) buffer.now.terms) }
 {}
 
 /// Outputs without skip and state are joined as they are, and the state after a part is the end of what it wrote.

@@ -83,3 +83,19 @@ fn overlaps_stand_in_front_of_parts(rt: HostRuntime) -> Result<(), Fail> {
     assert!(rt; are_parts(rt.alloc(), 1, b"abcdefghij", b"abcd|defgh|hij|")?);
     Ok(())
 }
+
+#[test]
+fn a_buffer_has_room_for_one_part(rt: HostRuntime) -> Result<(), Fail> {
+    let terms = terms(1);
+    if terms.check().is_ok() {
+        let mut buffer = PartBuffer::new(rt.alloc(), terms)?;
+        assert!(rt; buffer.room() == 4);
+        assert!(rt; buffer.push(b"abc")? == 3);
+        assert!(rt; buffer.room() == 1);
+        assert!(rt; buffer.next_part(rt.alloc())?.is_none());
+        assert!(rt; buffer.push(b"defg")? == 1);
+        assert!(rt; buffer.next_part(rt.alloc())?.is_some());
+        assert!(rt; buffer.room() == 4);
+    }
+    Ok(())
+}
