@@ -6,3 +6,4 @@ pub mod Covering
 pub mod Joining
 pub mod Pieces
 pub mod Stay
+pub mod Handed

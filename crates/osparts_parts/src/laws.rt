@@ -1,12 +1,10 @@
 //! Laws of parts. Each is a call that does nothing and ensures its law.
 
-ghost use Rattle.std.specs.Prelude.{◌≡◌, ℕ, List, [], ◌∷◌, ◌++◌, length, take};
-ghost use Rattle.osparts_parts.specs.declared.terms.Terms.{Terms};
-ghost use Rattle.osparts_parts.specs.Laws.{OverlapsAreEnds, PartsAreShort, PartsAreTheInput};
+ghost use Rattle.std.specs.Prelude.{◌≡◌, ℕ, List, ◌++◌, length, take};
+ghost use Rattle.osparts_parts.specs.Laws.{InputsStay, OverlapsAreEnds, PartsAreGivenStates, PartsAreShort, PartsAreTheInput, StatesAreEnds};
 ghost use Rattle.osparts_parts.specs.Laws.{PlainOutputsAreJoined, PlainPartsAreTheInput, ShortInputsAreOnePart};
 ghost use Rattle.osparts_parts.specs.Parts.{parts_of};
 ghost use Rattle.osparts_parts.specs.Progress.{HasGiven};
-ghost use Rattle.osparts_parts.specs.Joined.{last_bytes, state_after};
 
 use crate::buffer::PartBuffer;
 
@@ -29,9 +27,14 @@ pub fn given_parts_stay(buffer: &PartBuffer)
         parts ≡ take (length parts) (parts_of (pushed ++ more) buffer.now.terms) }
 {}
 
-/// Outputs without skip and state are joined as they are, and the state after a part is the end of what it wrote.
-pub fn outputs_are_joined()
-    ensures plain { PlainOutputsAreJoined }
-    ensures state { (begin : List ℕ) (outputs : List (List ℕ)) (output : List ℕ) (terms : Terms) →
-        state_after begin (outputs ++ output ∷ []) terms ≡ last_bytes terms.state output }
+/// Outputs without skip and state are joined as they are.
+pub fn plain_outputs_are_joined()
+    ensures { PlainOutputsAreJoined }
+{}
+
+/// A part is given the end of what the part before it wrote, whatever is written later.
+pub fn states_are_handed_on()
+    ensures ends { StatesAreEnds }
+    ensures given { PartsAreGivenStates }
+    ensures stay { InputsStay }
 {}
