@@ -222,7 +222,7 @@ for codec in smooth bank wavelet adpcm; do
     done
 done
 
-# So does a run of 24,000 activations that workers run in batches: three a turn of the loop, of which one reads what the one before it wrote, and one
+# So does a run of 24,000 activations that workers portion out: three a turn of the loop, of which one reads what the one before it wrote, and one
 # that traps and poisons two others.
 cat >threes.c <<'END'
 int main(void) {
@@ -259,7 +259,7 @@ for workers in 2 3 4 8 64; do
         "trapped 18000 code 2 line 8 / poisoned 18001 by 18000 / poisoned 18002 by 18000 / control done / output 6000 of 8000"
 done
 
-# So does one of which an activation waits for what is written 300 activations later: its stretch runs in control order up to it, and then in an epoch.
+# So does one of which an activation waits for what is written 300 activations behind it: those before it are portioned out, and the others run in epochs.
 cat >waiting.c <<'END'
 int main(void) {
     int s __attribute__((stream));
@@ -287,7 +287,7 @@ run run waiting.c waiting.in --workers 1
 mv out alone.bin
 for workers in 2 3 4 8 64; do
     run run waiting.c waiting.in --workers "$workers"
-    agree "one that waits, by $workers workers" 0 alone.bin "control done / output 15001 of 15001"
+    agree "one that waits behind portions, by $workers workers" 0 alone.bin "control done / output 15001 of 15001"
 done
 
 # As many activations as a run may have, and a megabyte in blocks of 64.

@@ -46,7 +46,7 @@ module _ (code : Code) (input : List ℕ) (budgets : Budgets) where
   pub begins : HeldAtFirst → (layout : Layout) (held : Held) → 2 ≤ code.streams → IsLayoutOf layout [] → length layout.writers ≡ code.streams → layout.input_len ≡ length input
       → held.ends.ends ≡ [] → held.ends.output ≡ [] → held.without_end ≡ [] → held.kept.items ≡ [] → (run : RunSoFar) → run ≡ not_begun (parts_of code) (length input) budgets.control
       → (activations : List Activation) → activations ≡ []
-      → StandsAt code input budgets (record { control = run; activations = activations; first = 0; layout = layout; held = held })
+      → StandsAt code input budgets (record { control = run; activations = activations; first = 0; layout = layout; held = held; tried = 0 })
   begins first layout held two laid streams over ends output unended kept run is activations none = record {
     code_is = ap (λ (r : RunSoFar). r.code) is;
     input_is = ap (λ (r : RunSoFar). r.input_len) is;

@@ -1,7 +1,8 @@
 -- The layout with the spans of the next activations behind its own.
 use Rattle.std.proofs.Common.{◌≡◌, ℕ, ◌+◌, ◌<◌, Bool, cond, true, false, List, [], ◌∷◌, ◌++◌, All, length, map, get_or, set, refl, sym, ap, ◌∙◌, subst, arith}
 use Rattle.std.proofs.lemmas.List.{append-nil, append_assoc, length-append, length-map, length-set, get_or-map}
-use Rattle.std.proofs.lemmas.List.Elements.{All-map, All-tail}
+use Rattle.std.proofs.lemmas.List.Elements.{All-map}
+use Rattle.epoch_run_portions.proofs.Passing.{All-back}
 use Rattle.flow_core_laws.specs.declared.activation.Activation.{Activation}
 use Rattle.flow_core_laws.specs.declared.claim.Claim.{Claim}
 use Rattle.flow_core_laws.specs.Window.{Window, claims_of, windows}
@@ -16,11 +17,6 @@ use Rattle.stream_match_layouts.proofs.Bounds.{length-claims-le}
 use Rattle.stream_match_layouts.proofs.Windows.{claims_in-windows}
 use Rattle.epoch_run.specs.NextSpans.{ComeBehind, FitBehind, joined, with_next, with_writer, with_writers}
 use Rattle.epoch_run.specs.declared.next_spans.NextSpans.{NextSpans}
-
--- what holds of all of two lists holds of the second one
-All-back : {X : Type 0} (P : X → Type 0) (xs ys : List X) → All P (xs ++ ys) → All P ys
-All-back P [] ys h = h
-All-back P (x ∷ xs) ys h = All-back P xs ys (All-tail P x (xs ++ ys) h)
 
 -- ---- writers
 

@@ -6,7 +6,7 @@ pub mod InOrder
 pub mod Moving
 pub mod Over
 pub mod Step
-pub mod InBatches
+pub mod PortionedOut
 pub mod Stretches
 pub mod LaidBehind
 pub mod Listing

@@ -72,7 +72,7 @@ pub(crate) fn run_and_advance<R: Threads + Sync, G: Gate>(
 }
 
 /// Has the control program create the new activations of an epoch, and works out their positions behind a layout.
-pub(crate) fn advance_and_lay_out(
+fn advance_and_lay_out(
     layout: &Layout,
     control: &mut ControlRun<'_>,
     next: &mut List<Activation>,

@@ -24,13 +24,13 @@ use task_workers::Gate;
 /// workers few: while 2 to 64 workers run one epoch, the control program creates the activations of the next one; one worker does the one
 /// after the other. What it comes to is the data-flow meaning of all activations that the control program creates.
 ///
-/// Where nobody waits, the activations run stretch by stretch instead, without a plan of them: by one worker in control order, one after the other, and by
-/// several in batches over one table, while the control program creates the next stretch. Where an activation doesn't find what it reads, the run goes on
-/// in epochs after those that ran.
+/// Where nobody waits, the activations run in control order instead: one after the other, without a plan, until one of them doesn't find there
+/// what it reads. By several workers they do so where bodies are short, and are portioned out among these where that pays: then all activations are
+/// created at once. Where one of them has to wait, the run goes on behind those that ran, and the others are created again as they come.
 ///
-/// The gate is called as in `execute`, with the number of a frame in its epoch, or of a batch in its stretch, and in control order with worker 0 and the
-/// number of an activation in its stretch. Their positions, their ends and the output are held of the whole run, the activations themselves until all so
-/// far have ended, a plan and its cells of one epoch at a time.
+/// The gate is called as in `execute`, with the number of a frame in its epoch, and in control order with worker 0 and the number of an
+/// activation in its stretch; of activations that a portion runs it isn't told. Their positions, their ends and the output are held of the whole
+/// run, the activations themselves until all so far have ended, a plan and its cells of one epoch at a time.
 pub fn run_epochs<R: Threads + Sync, G: Gate>(
     rt: &R,
     alloc: Global,
@@ -66,11 +66,11 @@ pub fn run_epochs<R: Threads + Sync, G: Gate>(
         workers,
         gate,
         size,
-        Way::InStretches,
+        Way::InOrder,
     )
 }
 
-/// Runs a code over an input in epochs of this size, as `run_epochs` does, and never stretch by stretch.
+/// Runs a code over an input in epochs of this size, as `run_epochs` does, and never in control order.
 pub fn run_epochs_of<R: Threads + Sync, G: Gate>(
     rt: &R,
     alloc: Global,
@@ -111,7 +111,7 @@ pub fn run_epochs_of<R: Threads + Sync, G: Gate>(
     )
 }
 
-/// Runs a code over an input in epochs of this size, and stretch by stretch where it may.
+/// Runs a code over an input in epochs of this size, and in control order where it may.
 fn run_by<R: Threads + Sync, G: Gate>(
     rt: &R,
     alloc: Global,

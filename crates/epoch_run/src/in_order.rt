@@ -6,7 +6,7 @@ ghost use Rattle.epoch_run_bodies.specs.Frames.{frame_outcome};
 ghost use Rattle.epoch_run_in_order.specs.Standing.{IsReady, StandsBehind, meaning_in};
 ghost use Rattle.epoch_run_in_order_laws.specs.InOrder.{HaveAllEnded};
 ghost use Rattle.flow_core_epochs.specs.Epoch.{IsHeld};
-ghost use Rattle.flow_core_laws.specs.Limits.{workers_limit};
+ghost use Rattle.flow_core_laws.specs.Limits.{input_limit};
 ghost use Rattle.flow_core_laws.specs.declared.activation.Activation.{Activation};
 ghost use Rattle.os_code.specs.Codes.{parts_of};
 ghost use Rattle.os_code.specs.Outcomes.{main_control};
@@ -20,13 +20,14 @@ ghost use Rattle.epoch_run.specs.Run.{AreBudgets, created};
 ghost use Rattle.epoch_run.specs.Standing.{HasCreated, StandsAt};
 ghost use Rattle.epoch_run.specs.declared.result.Budgets.{Budgets};
 
-use crate::batches::run_batches;
 use crate::beside::create;
+use crate::portioning::portion_out;
 use crate::result::Budgets;
 use crate::standing::Standing;
 use epoch_run_bodies::laws::later_activations_change_nothing;
 use epoch_run_in_order::{HeldInOrder, InOrder};
-use flow_core_laws::{ControlEnd, Ends};
+use epoch_run_portions::STRETCH;
+use flow_core_laws::{ACTIVATIONS_LIMIT, ControlEnd, Ends};
 use os_code::Code;
 use os_io::{List, Memory};
 use std::alloc::Global;
@@ -34,11 +35,15 @@ use std::mem;
 use std::thread::Threads;
 use task_workers::Gate;
 
-/// How many activations a stretch has that is run in control order.
-const STRETCH: u32 = 256;
+/// How many activations run before the others are portioned out among several workers.
+const ALONE: usize = 1_024;
 
-/// Goes on after activations that all have ended: stretch by stretch, until the control program has ended, or an activation of a stretch doesn't find what
-/// it reads. By several workers stretches are run in batches. What has no end then is left to the next epoch. It answers how the control program has ended, once it has. After `Memory` the run is to be given up.
+/// More activations than a run ever has.
+const MOST: usize = ACTIVATIONS_LIMIT as usize + 1;
+
+/// Goes on in control order behind activations that all have ended: stretch by stretch, until the control program has ended, or one of a
+/// stretch doesn't find there what it reads, or by several workers the bodies of a stretch are long. What has no end then is left to
+/// the next epoch. It answers how the control program has ended, once it has. After `Memory` the run is to be given up.
 pub(crate) fn run_in_order<'c, R: Threads + Sync, G: Gate>(
     rt: &R,
     standing: &mut Standing<'c>,
@@ -49,7 +54,7 @@ pub(crate) fn run_in_order<'c, R: Threads + Sync, G: Gate>(
     workers: u32,
     gate: &G,
 ) -> Result<Option<ControlEnd>, Memory>
-    requires workers { (1 ≤ workers) × (workers ≤ workers_limit) }
+    requires input { length input.now ≤ input_limit }
     requires budgets { AreBudgets budgets }
     requires stands { StandsAt code.now input.now budgets standing.old }
     requires ran { IsHeldOf (parts_of code.now) (created_so_far standing.old.control) input.now budgets.task standing.old.held }
@@ -96,20 +101,20 @@ fn begin(standing: &mut Standing<'_>, alloc: Global, code: &Code) -> Result<InOr
     Ok(order)
 }
 
-/// Runs stretch by stretch, as far as that goes: by one worker each in control order, and by several the first one so, which tells how long bodies are, and
-/// the others in batches.
-fn run_on<R: Threads + Sync, G: Gate>(
+/// Runs stretch by stretch, as far as that goes. By several workers what comes behind the first stretches is portioned out among them, where that
+/// serves, and what the portions leave goes on stretch by stretch.
+fn run_on<'c, R: Threads + Sync, G: Gate>(
     rt: &R,
-    standing: &mut Standing<'_>,
+    standing: &mut Standing<'c>,
     order: &mut InOrder,
     alloc: Global,
-    code: &Code,
+    code: &'c Code,
     input: &[u8],
     budgets: Budgets,
     workers: u32,
     gate: &G,
 ) -> Result<(), Memory>
-    requires workers { (1 ≤ workers) × (workers ≤ workers_limit) }
+    requires input { length input.now ≤ input_limit }
     requires budgets { AreBudgets budgets }
     requires ran { HaveRunInOrder code.now input.now budgets standing.old order.old }
     ensures goes { OnOk result (GoesInOrder code.now input.now budgets standing.new order.new) }
@@ -118,19 +123,28 @@ fn run_on<R: Threads + Sync, G: Gate>(
     ensures told { OnOk result (standing.new.control.has_ended ≡ true → created_so_far standing.new.control ≡ (whole standing.new.control).activations) }
 {
     if workers == 1 {
-        return run_stretches(standing, order, alloc, code, input, budgets, gate);
+        run_stretches(
+            standing, order, alloc, code, input, budgets, workers, gate, MOST,
+        )?;
+        return Ok(());
     }
-    let count = standing.held.pace.tried();
-    let more = run_stretch(standing, order, alloc, code, input, budgets, gate, count)?;
-    if more {
-        run_batches(
-            rt, standing, order, alloc, code, input, budgets, workers, gate,
+    let more = run_stretches(
+        standing, order, alloc, code, input, budgets, workers, gate, ALONE,
+    )?;
+    if !more {
+        return Ok(());
+    }
+    let all = portion_out(rt, standing, order, alloc, code, input, budgets, workers)?;
+    if !all {
+        run_stretches(
+            standing, order, alloc, code, input, budgets, workers, gate, MOST,
         )?;
     }
     Ok(())
 }
 
-/// Runs stretch by stretch in control order, as far as that goes.
+/// Runs stretch by stretch, as far as that goes, and no further than the one with which `until` activations are laid out. It answers whether all so far ran,
+/// and more may come.
 fn run_stretches<G: Gate>(
     standing: &mut Standing<'_>,
     order: &mut InOrder,
@@ -138,26 +152,35 @@ fn run_stretches<G: Gate>(
     code: &Code,
     input: &[u8],
     budgets: Budgets,
+    workers: u32,
     gate: &G,
-) -> Result<(), Memory>
+    until: usize,
+) -> Result<bool, Memory>
     requires budgets { AreBudgets budgets }
     requires ran { HaveRunInOrder code.now input.now budgets standing.old order.old }
     ensures goes { OnOk result (GoesInOrder code.now input.now budgets standing.new order.new) }
     ensures grows { OnOk result (standing.new.control.has_ended ≡ false
         → length (created_so_far standing.old.control) < length (created_so_far standing.new.control)) }
     ensures told { OnOk result (standing.new.control.has_ended ≡ true → created_so_far standing.new.control ≡ (whole standing.new.control).activations) }
+    ensures all { IfOk result (λ more. IsTrue more → HaveRunInOrder code.now input.now budgets standing.new order.new) }
 {
-    'stretches: loop {
-        let more = run_stretch(standing, order, alloc, code, input, budgets, gate, STRETCH)?;
-        if !more {
-            break 'stretches;
+    let goes_on = 'stretches: loop {
+        let goes_on = run_stretch(standing, order, alloc, code, input, budgets, workers, gate)?;
+        if ends_here(goes_on, standing.layout.frames(), until) {
+            break 'stretches goes_on;
         }
-    }
-    Ok(())
+    };
+    Ok(goes_on)
 }
 
-/// Creates a stretch of at most `count` activations and runs it in control order, as far as that goes. It answers whether all of them ran, and more may
-/// come.
+/// Whether no further stretch is run: the last one didn't run whole, or no more come, or `frames` activations are laid out, which are `until` or more.
+fn ends_here(goes_on: bool, frames: usize, until: usize) -> bool
+    ensures { result ≡ false → goes_on ≡ true }
+{
+    !goes_on || frames >= until
+}
+
+/// Creates a stretch of activations and runs it, as far as that goes. It answers whether all of them ran, and more may come.
 fn run_stretch<G: Gate>(
     standing: &mut Standing<'_>,
     order: &mut InOrder,
@@ -165,11 +188,10 @@ fn run_stretch<G: Gate>(
     code: &Code,
     input: &[u8],
     budgets: Budgets,
+    workers: u32,
     gate: &G,
-    count: u32,
 ) -> Result<bool, Memory>
     requires budgets { AreBudgets budgets }
-    requires some { 1 ≤ count }
     requires ran { HaveRunInOrder code.now input.now budgets standing.old order.old }
     ensures goes { OnOk result (GoesInOrder code.now input.now budgets standing.new order.new) }
     ensures grows { OnOk result (standing.new.control.has_ended ≡ false
@@ -178,8 +200,8 @@ fn run_stretch<G: Gate>(
     ensures all { IfOk result (λ more. IsTrue more → HaveRunInOrder code.now input.now budgets standing.new order.new) }
     ensures more { IfOk result (λ more. IsTrue more → standing.new.control.has_ended ≡ false) }
 {
-    create_stretch(standing, alloc, count)?;
-    let all = run_created(standing, order, code, input, budgets, gate)?;
+    create_stretch(standing, alloc, STRETCH)?;
+    let all = run_created(standing, order, code, input, budgets, workers, gate)?;
     if !all {
         return Ok(false);
     }
@@ -189,7 +211,11 @@ fn run_stretch<G: Gate>(
 
 /// Has the control program create the next `count` activations, or all that remain, and lays them out. Those before them have ended, and their lists
 /// are used again.
-fn create_stretch(standing: &mut Standing<'_>, alloc: Global, count: u32) -> Result<(), Memory>
+pub(crate) fn create_stretch(
+    standing: &mut Standing<'_>,
+    alloc: Global,
+    count: u32,
+) -> Result<(), Memory>
     requires some { 1 ≤ count }
     requires laid { IsLayout standing.old.layout }
     requires takes { (after : RunSoFar) (added : List Activation) → HasCreated count standing.old.control after [] added → TakesMore standing.old.layout added }
@@ -208,14 +234,15 @@ fn create_stretch(standing: &mut Standing<'_>, alloc: Global, count: u32) -> Res
     Ok(())
 }
 
-/// Runs the activations of a stretch in control order, as far as each of them finds what it reads, and tells how long their bodies were. It
+/// Runs the activations of a stretch, as far as each of them finds there what it reads, and tells how long their bodies were. It
 /// answers whether all of them ran.
-pub(crate) fn run_created<G: Gate>(
+fn run_created<G: Gate>(
     standing: &mut Standing<'_>,
     order: &mut InOrder,
     code: &Code,
     input: &[u8],
     budgets: Budgets,
+    workers: u32,
     gate: &G,
 ) -> Result<bool, Memory>
     requires budgets { AreBudgets budgets }
@@ -226,16 +253,17 @@ pub(crate) fn run_created<G: Gate>(
     ensures same { OnOk result (standing.new ≡ record standing.old { held = standing.new.held }) }
 {
     let begun = order.steps;
+    let pace = standing.held.pace;
     let count = order.run_all(
         code,
         standing.activations.as_slice(),
         &standing.layout,
         input,
         budgets.task,
+        pace.most_steps(workers, standing.activations.len() as u64),
         gate,
     )?;
-    let steps = order.steps.saturating_sub(begun);
-    standing.held.pace = standing.held.pace.behind_more(steps, count);
+    standing.held.pace = pace.behind_more(order.steps.saturating_sub(begun), count);
     Ok(count == standing.activations.len())
 }
 

@@ -11,15 +11,16 @@
 //! plan and the cells of one epoch alone are held at once. Where none has ended before the control program has, and none is found to wait
 //! then, all are run by the plan of the whole run, and nothing is carried over.
 //!
-//! Where nobody waits, `run_epochs` goes on stretch by stretch instead. One worker runs the activations of a stretch in control order, one after the
-//! other, with no plan (`epoch_run_in_order`). Several workers run a stretch in batches over one table (`epoch_run_stretch`), while the control program
-//! creates the next one. Where an activation doesn't find what it reads, what ran is held as after an epoch.
+//! Where nobody waits, and by several workers bodies are short, `run_epochs` goes on in control order instead (`epoch_run_in_order`): activations
+//! run one after the other, with no plan, until one of them doesn't find there what it reads. What ran is then held as after an epoch. Several
+//! workers portion out such a run: each has a control program of its own create the activations up to the end of its portion, and runs those from
+//! the portion's begin on (`epoch_run_portions`).
 #![tactic(auto)]
 
 mod adding;
 mod at_once;
-mod batches;
 mod beside;
+mod borders;
 mod epoch;
 mod epochs;
 mod held;
@@ -29,12 +30,13 @@ mod next_spans;
 mod open_bodies;
 mod pace;
 mod plan;
+mod portioning;
+mod portions;
 mod putting;
 mod result;
 mod room;
 mod size;
 mod standing;
-mod stretch;
 mod unended;
 mod way;
 

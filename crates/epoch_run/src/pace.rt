@@ -1,6 +1,5 @@
 ghost use Rattle.std.specs.Prelude.{◌≤◌, IfSome};
 
-use crate::size::EpochSize;
 use epoch_run_bodies::COUNTED;
 use flow_core_laws::Plan;
 
@@ -11,34 +10,21 @@ const TABLE_STEPS: u64 = 1_000;
 const CELL_STEPS: u64 = 80;
 
 /// What it takes to create an activation and to run it in control order, besides its own steps.
-const RUNNING: u64 = 170;
+pub(crate) const RUNNING: u64 = 170;
 
-/// How many steps a batch takes, about: so many that the table costs it little.
-const BATCH_STEPS: u64 = 25_000;
+/// How many steps an average body has to take for three workers or more to gain by portioning a run in control order out: one of them creates all
+/// activations, and each other one creates those before its own as well.
+const PORTION_STEPS: u64 = 20;
 
-/// How many batches of a stretch each worker is to have at least, where it has as many activations: so all end at about the same time.
-const BATCHES_EACH: u64 = 4;
+/// How many steps it has to take for two workers to gain.
+const PORTION_STEPS_OF_TWO: u64 = 90;
 
-/// How many activations a stretch has at most that is run in batches.
-const STRETCH_ACTIVATIONS: u64 = 8_192;
+/// How many steps it has to take for each of its cells, with `RUNNING` added to them: what a portion wrote is put behind what the others wrote, which
+/// takes about as long as writing it did.
+const PORTIONED_CELL_STEPS: u64 = 11;
 
-/// How many steps such a stretch takes at most, about: so many that it costs little to start its threads, and to end them, which look about for some
-/// tenths of a millisecond before they leave.
-const STRETCH_STEPS: u64 = 8_000_000;
-
-/// How many elements the windows of such a stretch have at most, about: what they write is held at once.
-const STRETCH_ELEMENTS: u64 = 262_144;
-
-/// How many activations are created before their elements are counted.
-const COUNTED_AT_ONCE: u32 = 64;
-
-/// The least number of steps of a stretch for which it pays to start threads.
-const STEPS_FOR_THREADS: u64 = 200_000;
-
-/// How many steps one worker runs alone at most, about, to see how long bodies are, and how many activations.
-const TRIED_STEPS: u64 = 200_000;
-
-const TRIED: u64 = 256;
+/// The least number of steps for which it pays to run a plan by several workers, whatever a table costs.
+const LONG_STEPS: u64 = 4_096;
 
 /// How many steps are worth a thread.
 const THREAD_STEPS: u64 = 65_536;
@@ -77,56 +63,64 @@ impl Pace {
         }
     }
 
-    /// How many steps it takes to run an activation, as far as that is known, with what it takes besides its body.
-    fn cost(self) -> u64
-        ensures { 1 ≤ result }
-    {
+    /// The least number of steps for which it pays to run a plan by several workers.
+    fn worth(self) -> u64 {
         match self {
-            Pace::Steps { each, .. } => each.saturating_add(RUNNING),
-            Pace::Unknown => RUNNING,
+            Pace::Steps { cells, .. } => worth_a_table(cells).min(LONG_STEPS),
+            Pace::Unknown => TABLE_STEPS,
+        }
+    }
+
+    /// Whether bodies are known to be so short that several workers gain nothing by a plan.
+    pub(crate) fn is_short(self) -> bool {
+        match self {
+            Pace::Steps { each, .. } => each < self.worth(),
+            Pace::Unknown => false,
+        }
+    }
+
+    /// How many steps they take each, as far as that is known.
+    pub(crate) fn steps(self) -> u64 {
+        match self {
+            Pace::Steps { each, .. } => each,
+            Pace::Unknown => 0,
         }
     }
 
     /// How many cells a plan has for each, as far as that is known.
-    fn cells(self) -> u64 {
+    pub(crate) fn cells(self) -> u64 {
         match self {
             Pace::Steps { cells, .. } => cells,
             Pace::Unknown => 0,
         }
     }
 
-    /// How many activations one worker runs alone to see how long bodies are.
-    pub(crate) fn tried(self) -> u32
-        ensures { 1 ≤ result }
-    {
-        (TRIED_STEPS / self.cost()).clamp(1, TRIED) as u32
-    }
-
-    /// How large a stretch is that several workers run.
-    pub(crate) fn stretch(self) -> EpochSize
-        ensures { 1 ≤ result.activations }
-    {
-        EpochSize {
-            activations: (STRETCH_STEPS / self.cost()).clamp(1, STRETCH_ACTIVATIONS) as u32,
-            elements: STRETCH_ELEMENTS,
-            stretch: COUNTED_AT_ONCE,
-            growth: 1,
+    /// Whether they are so long that `workers` workers gain by portioning a run out.
+    pub(crate) fn is_worth_portions(self, workers: u32) -> bool {
+        match self {
+            Pace::Steps { each, cells } => {
+                each >= worth_portions(workers)
+                    && each.saturating_add(RUNNING) >= cells.saturating_mul(PORTIONED_CELL_STEPS)
+            }
+            Pace::Unknown => false,
         }
     }
 
-    /// How many activations a batch has of a stretch of `activations` that `workers` workers run.
-    pub(crate) fn batch(self, activations: u64, workers: u32) -> u32
-        requires { 1 ≤ workers }
-    {
-        let shares = u64::from(workers).saturating_mul(BATCHES_EACH);
-        (BATCH_STEPS / self.cost())
-            .min(activations / shares)
-            .clamp(1, STRETCH_ACTIVATIONS) as u32
+    /// Whether they may be so short: they are known to be, or nothing is known of them yet.
+    pub(crate) fn may_be_short(self) -> bool {
+        match self {
+            Pace::Steps { .. } => self.is_short(),
+            Pace::Unknown => true,
+        }
     }
 
-    /// Whether it pays to start threads for a stretch of `activations`.
-    pub(crate) fn is_worth_threads(self, activations: u64) -> bool {
-        activations.saturating_mul(self.cost()) >= STEPS_FOR_THREADS
+    /// How many steps the bodies of `activations` activations may take together where these run one after the other: any number by one worker, and by
+    /// several what short bodies take.
+    pub(crate) fn most_steps(self, workers: u32, activations: u64) -> u64 {
+        if workers == 1 {
+            return u64::MAX;
+        }
+        activations.saturating_mul(self.worth())
     }
 
     /// How many of the workers are to run a plan round by round; none where they are to run it over one table. More than one do so where all
@@ -148,6 +142,15 @@ impl Pace {
 /// The least number of steps of an average body for which a table pays, by how many cells it has.
 fn worth_a_table(cells: u64) -> u64 {
     cells.saturating_mul(CELL_STEPS).saturating_add(TABLE_STEPS)
+}
+
+/// The least number of steps of an average body from which on `workers` workers gain by portioning a run out; one worker never gains.
+fn worth_portions(workers: u32) -> u64 {
+    match workers {
+        0 | 1 => u64::MAX,
+        2 => PORTION_STEPS_OF_TWO,
+        _ => PORTION_STEPS,
+    }
 }
 
 /// How many cells a plan has for each frame, on the average.

@@ -49,6 +49,8 @@ pub(crate) struct Standing<'c> {
     pub layout: Layout,
     /// How the activations that were run ended, what they wrote to the output, and what of their elements may still be read.
     pub held: Held,
+    /// How many activations had run when several workers last tried to portion out the run.
+    pub(crate) tried: u32,
 }
 
 impl<'c> Standing<'c> {
@@ -72,6 +74,7 @@ impl<'c> Standing<'c> {
             first: 0,
             layout,
             held: Held::nothing(alloc),
+            tried: 0,
         })
     }
 
@@ -87,7 +90,7 @@ impl<'c> Standing<'c> {
         }
     }
 
-    /// Runs what has no end yet, and has the control program create more, by an epoch or stretch by stretch. It answers how the
+    /// Runs what has no end yet, and has the control program create more, by an epoch or in control order. It answers how the
     /// control program has ended, once it has. After `Memory` the run is to be given up.
     pub(crate) fn go_on<R: Threads + Sync, G: Gate>(
         &mut self,
@@ -111,21 +114,28 @@ impl<'c> Standing<'c> {
         ensures all { IfOk result (λ end. IfSome end (λ _. created_so_far self.new.control ≡ created (parts_of code.now) input.now budgets)) }
         ensures end { IfOk result (λ end. IfSome end (λ e. e ≡ (main_control (parts_of code.now) (length input.now) budgets.control).end)) }
     {
-        if way == Way::InStretches && self.none_waits() {
-            return self.go_on_in_stretches(rt, alloc, code, input, budgets, workers, gate, size);
+        if way == Way::InOrder && self.may_go_in_order(workers) {
+            return self.go_on_in_order(rt, alloc, code, input, budgets, workers, gate, size);
         }
         self.go_on_in_epochs(rt, alloc, code, input, budgets, workers, gate, size)
     }
 
-    /// Whether nobody waits.
-    fn none_waits(&self) -> bool
-        ensures { IsTrue result → length self.now.held.without_end ≡ 0 }
-    {
-        self.held.without_end.len() == 0
+    /// Whether nobody waited behind the last epoch, and bodies may be short for what a table costs. To one worker their length makes no
+    /// difference.
+    fn may_go_in_order(&self, workers: u32) -> bool {
+        self.held.without_end.len() == 0 && (workers == 1 || self.held.pace.may_be_short())
     }
 
-    /// Runs what has no end yet by itself, which tells whether one waits; and goes on stretch by stretch where none does, and else in epochs.
-    fn go_on_in_stretches<R: Threads + Sync, G: Gate>(
+    /// Whether nobody waits now, and bodies are short.
+    fn goes_in_order(&self, workers: u32) -> bool
+        ensures { IsTrue result → length self.now.held.without_end ≡ 0 }
+    {
+        self.held.without_end.len() == 0 && (workers == 1 || self.held.pace.is_short())
+    }
+
+    /// Runs what has no end yet by itself, which tells whether one waits and how long bodies are; and goes on in control order where
+    /// that serves, and else in epochs.
+    fn go_on_in_order<R: Threads + Sync, G: Gate>(
         &mut self,
         rt: &R,
         alloc: Global,
@@ -147,7 +157,7 @@ impl<'c> Standing<'c> {
         ensures end { IfOk result (λ end. IfSome end (λ e. e ≡ (main_control (parts_of code.now) (length input.now) budgets.control).end)) }
     {
         self.run(rt, alloc, code, input, budgets, workers, gate)?;
-        if self.none_waits() {
+        if self.goes_in_order(workers) {
             return run_in_order(rt, self, alloc, code, input, budgets, workers, gate);
         }
         self.go_on_in_epochs(rt, alloc, code, input, budgets, workers, gate, size)

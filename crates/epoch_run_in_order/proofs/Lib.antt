@@ -8,5 +8,7 @@ mod Held
 mod NextReads
 mod NextWrites
 mod Next
+mod NextApart
+mod Joined
 mod Last
 mod GivenUp

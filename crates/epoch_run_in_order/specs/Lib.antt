@@ -5,3 +5,4 @@ pub mod Reading
 pub mod Writing
 pub mod Standing
 pub mod Behind
+pub mod Joining

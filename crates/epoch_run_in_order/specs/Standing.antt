@@ -1,6 +1,7 @@
 -- Where a run in control order stands.
 use Rattle.std.specs.Prelude.{◌≡◌, ℕ, ◌≤◌, List, ◌∷◌, ◌++◌, [], All, drop, length, map, sum_by}
 use Rattle.epoch_run_bodies.specs.Frames.{frame_outcome}
+use Rattle.epoch_run_in_order_laws.specs.Apart.{HaveEndedFrom, HoldWritten}
 use Rattle.epoch_run_in_order_laws.specs.InOrder.{HaveAllEnded, HoldElements}
 use Rattle.flow_core_laws.specs.Limits.{last_activation, positions_limit}
 use Rattle.flow_core_laws.specs.Outcome.{State, ends_of, outcome_of}
@@ -37,6 +38,15 @@ pub record StandsBehind (code : Parts) (all before : List Activation) (input : L
   pub ends_are : order.ends ≡ ends_of (meaning_in code all before input budget)
   pub have_ended : HaveAllEnded (meaning_in code all before input budget)
   pub hold : HoldElements before input (meaning_in code all before input budget) order.streams.elements order.streams.firsts
+
+-- The activations from a number on have run apart from those before it: each has the end that it has among all so far, whether or not those
+-- before have ended, and the streams hold what they wrote.
+pub record StandsApart (code : Parts) (all : List Activation) (from : ℕ) (before : List Activation) (input : List ℕ) (budget : ℕ)
+    (order : InOrder) : Type 0 where
+  pub within : from ≤ length before
+  pub ends_are : order.ends ≡ drop from (ends_of (meaning_in code all before input budget))
+  pub have_ended : HaveEndedFrom from (meaning_in code all before input budget)
+  pub hold : HoldWritten from before input (meaning_in code all before input budget) order.streams.elements order.streams.firsts
 
 -- a run is made for a code: it can run its tasks, and has its streams
 pub record IsReady (code : Code) (order : InOrder) : Type 0 where

@@ -45,7 +45,8 @@ pub struct HeldInOrder {
 }
 
 impl InOrder {
-    /// Runs activations in order: the last ones of a layout, as long as each finds what it reads. It answers how many ran. The gate is called with worker 0 and the number of an activation among
+    /// Runs activations in order: the last ones of a layout, as long as each finds there what it reads, and as long as their bodies took
+    /// fewer steps together than a number. It answers how many ran. The gate is called with worker 0 and the number of an activation among
     /// these before it runs, or is found to wait. After `Memory` the run is to be given up.
     pub fn run_all<G: Gate>(
         &mut self,
@@ -54,6 +55,7 @@ impl InOrder {
         layout: &Layout,
         input: &[u8],
         budget: u64,
+        most_steps: u64,
         gate: &G,
     ) -> Result<usize, Memory>
         requires budget { budget ≤ budget_limit }
@@ -68,9 +70,10 @@ impl InOrder {
             → StandsBehind (parts_of code.now) all (take (length self.old.ends + count) given) input.now budget self.new) }
     {
         let first = self.ends.len();
+        let begun = self.steps;
         self.ends.reserve(activations.len())?;
         let mut count = 0;
-        'running: while count < activations.len() {
+        'running: while count < activations.len() && self.steps.saturating_sub(begun) < most_steps {
             gate.at(0, count as u32);
             let number = first + count;
             let spans = layout.spans_of(number);

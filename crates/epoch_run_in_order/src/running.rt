@@ -13,10 +13,11 @@ ghost use Rattle.stream_match_layouts.specs.Layout.{span_of};
 ghost use Rattle.stream_match_layouts.specs.declared.span.Span.{Span};
 ghost use Rattle.task_vm.specs.Space.{IsMadeFor};
 ghost use Rattle.epoch_run_in_order.specs.Reading.{values_in};
-ghost use Rattle.epoch_run_in_order.specs.Standing.{AreNext, IsReady, StandsBehind, outcome_by};
+ghost use Rattle.epoch_run_in_order.specs.Standing.{AreNext, IsReady, StandsApart, StandsBehind, outcome_by};
 
 use crate::in_order::InOrder;
 use crate::inputs::Inputs;
+use epoch_run_in_order_laws::laws::apart_and_joined;
 use flow_core::fit;
 use flow_core_laws::{Activation, TaskEnd};
 use os_code::Code;
@@ -49,7 +50,13 @@ impl InOrder {
             → spans.now ≡ map span_of (windows_of (before ++ activation.now ∷ []) (length before))
             → StandsBehind (parts_of code.now) all before input.now budget self.old
             → StandsBehind (parts_of code.now) all (before ++ activation.now ∷ []) input.now budget self.new) }
+        ensures ran_apart { IfOk result (λ ran. ran ≡ true → (all before : List Activation) (from : ℕ) → length before ≡ number
+            → slice_get all (length before) ≡ Some activation.now
+            → spans.now ≡ map span_of (windows_of (before ++ activation.now ∷ []) (length before))
+            → StandsApart (parts_of code.now) all from before input.now budget self.old
+            → StandsApart (parts_of code.now) all from (before ++ activation.now ∷ []) input.now budget self.new) }
     {
+        apart_and_joined();
         let read = self.inputs.read_all(&self.streams, input, spans)?;
         let Some(written) = read else {
             return Ok(false);

@@ -16,10 +16,11 @@ use os_io::{List, Memory};
 use std::alloc::Global;
 use stream_match_layouts::Span;
 
-/// The elements of streams after activations that all have ended: what these wrote, but for some that lie before the read cursors.
+/// The elements of streams behind activations that all have ended: what these wrote, but for some that lie before the read cursors; in a run apart
+/// what the activations of that run wrote.
 #[derive(Drop)]
 pub struct Streams {
-    /// For each stream its elements from a position on: of the output all. The input has none here.
+    /// For each stream its elements from a position on: of the output all, in a run apart those that it wrote. The input has none here.
     pub elements: List<List<Option<Elem>>>,
     /// For each stream the position of its first element here.
     pub firsts: List<u64>,
@@ -38,6 +39,21 @@ impl Streams {
         Ok(Streams {
             elements,
             firsts: List::filled(alloc, 0, count as usize)?,
+        })
+    }
+
+    /// Streams without elements, each from a position on.
+    pub(crate) fn from_positions(alloc: Global, firsts: &[u64]) -> Result<Streams, Memory>
+        ensures elements { IfOk result (λ streams. streams.elements ≡ replicate (length firsts.now) []) }
+        ensures firsts { IfOk result (λ streams. streams.firsts ≡ firsts.now) }
+    {
+        let mut elements = List::with_capacity(alloc, firsts.len())?;
+        for _ in 0..firsts.len() {
+            elements.push(List::new(alloc))?;
+        }
+        Ok(Streams {
+            elements,
+            firsts: List::from_slice(alloc, firsts)?,
         })
     }
 

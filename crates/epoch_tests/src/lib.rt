@@ -1,7 +1,7 @@
 //! Compiled programs, run in epochs.
 //!
 //! There is nothing here but tests: a run in short epochs, by one worker or several, comes to what one epoch comes to, and so does one
-//! stretch by stretch, in batches on several workers or in control order, also where `main` ends in the middle of one; and `main` by stretches creates
+//! in control order, portioned out among several workers or not, also where `main` ends in the middle of one; and `main` by stretches creates
 //! what it creates at once.
 #![tactic(auto)]
 
@@ -12,9 +12,9 @@ mod ends;
 #[cfg(test)]
 mod examples;
 #[cfg(test)]
-mod in_batches;
-#[cfg(test)]
 mod lengths;
+#[cfg(test)]
+mod portions;
 #[cfg(test)]
 mod stretches;
 #[cfg(test)]

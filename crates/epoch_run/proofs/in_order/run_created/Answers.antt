@@ -14,6 +14,6 @@ returns-clause-goes g c =
 
 pub returns-clause-all : goal.returns-clause-all
 returns-clause-all g c = λ all.
-    let are : c.in_ok-count.count ≡ c.len.result = eqb-true c.in_ok-count.count c.len.result all in
+    let are : c.in_ok-count.count ≡ c.len-2.result = eqb-true c.in_ok-count.count c.len-2.result all in
     all_went c.args.code.now c.args.input.now c.args.budgets c.args.standing.now c.args.order.now c.run_all.new.self c.requires.goes c.requires.none_ran c.as_slice.result.now c.as_slice.ensures
-    c.in_ok-count.count c.in_ok-count.ensures.ready c.in_ok-count.ensures.within c.in_ok-count.ensures.count c.in_ok-count.ensures.stands (are ∙ c.len.ensures) _
+    c.in_ok-count.count c.in_ok-count.ensures.ready c.in_ok-count.ensures.within c.in_ok-count.ensures.count c.in_ok-count.ensures.stands (are ∙ c.len-2.ensures) _

@@ -7,13 +7,13 @@ use Rattle.epoch_run.proofs.in_order.run_stretch.Goals as goal
 pub run_created-requires-clause-goes : goal.run_created-requires-clause-goes
 run_created-requires-clause-goes g c κs within =
     let e = c.in_ok-create_stretch.ensures in
-    (next_stretch c.args.code.now c.args.input.now c.args.budgets c.args.standing.now c.args.order.now c.requires.ran c.args.count c.create_stretch.new.standing
+    (next_stretch c.args.code.now c.args.input.now c.args.budgets c.args.standing.now c.args.order.now c.requires.ran 256 c.create_stretch.new.standing
     e.created e.first (e.laid (created_so_far c.args.standing.now.control) c.requires.ran.goes.laid_out.laid) e.streams e.input).0
 
 pub run_created-requires-clause-none_ran : goal.run_created-requires-clause-none_ran
 run_created-requires-clause-none_ran g c κs within =
     let e = c.in_ok-create_stretch.ensures in
-    (next_stretch c.args.code.now c.args.input.now c.args.budgets c.args.standing.now c.args.order.now c.requires.ran c.args.count c.create_stretch.new.standing
+    (next_stretch c.args.code.now c.args.input.now c.args.budgets c.args.standing.now c.args.order.now c.requires.ran 256 c.create_stretch.new.standing
     e.created e.first (e.laid (created_so_far c.args.standing.now.control) c.requires.ran.goes.laid_out.laid) e.streams e.input).1
 
 pub returns-clause-goes : goal.returns-clause-goes
