@@ -27,7 +27,7 @@ LARGE = bytes(number * 7 % 256 for number in range(251)) * 20000
 INPUTS = {"examples/divide.c": DIVIDED, "cut.sh": LARGE, " work": LARGE, "adler.c": bytes(20000), "pipeline.c": b"twelve bytes", "mirror640.c": PLAIN[:64000]}
 # Statuses other than 0.
 OTHERS = {"./osview report examples/divide.c INPUT": 1, "./osview stream examples/divide.c INPUT osout": 1, "./osrun explain PROGRAM INPUT A": 1,
-          "./osrun explain PROGRAM INPUT ACTIVATION": 1}
+          "./osrun explain PROGRAM INPUT ACTIVATION": 1, "./osview explain PROGRAM INPUT ACTIVATION": 1}
 # What stands for words that a reader puts in.
 WORDS = {r"\bACTIVATION\b": "0", r"\bSLOT\b": "8", r"\bNAME\b": "osout", r" \[.*\]": "", r"\bA\.\.B\b": "0..2", r"\bFILE\.\.": "FILE", r"\bPART\b": "INPUT", r"\bA$": "0"}
 
