@@ -1452,7 +1452,7 @@ shows "a byte behind others that are harmless" "int main(void) { /* ' */ int x =
 shows "an open comment behind a closed one" 'int main(void) { /* a */ /* b\n' \
     "1:26: error 2: a comment that is never closed: end it by */ /     1 | int main(void) { /* a */ /* b /       |                          ^~"
 shows "a large number behind another" 'int main(void) { int x = 1 + 99999999999; }\n' \
-    "1:30: error 3: a number above 2147483647: use a smaller one /     1 | int main(void) { int x = 1 + 99999999999; } /       |                              ^~~~~~~~~~~"
+    "1:30: error 3: a number above 2147483647: use a smaller one, or write u behind it, up to 4294967295 /     1 | int main(void) { int x = 1 + 99999999999; } /       |                              ^~~~~~~~~~~"
 shows "a large number of the type unsigned" 'int main(void) { unsigned x = 1u + 4294967296u; }\n' \
     "1:36: error 3: a number above 4294967295: use a smaller one /     1 | int main(void) { unsigned x = 1u + 4294967296u; } /       |                                    ^~~~~~~~~~~"
 shows "a large hexadecimal number" 'int main(void) { int x = 0xffffffff0; }\n' \

@@ -11,7 +11,8 @@ use os_lexer::names::{INPUT, MAIN, OMP, OUTPUT};
 use os_lexer::{Key, Kind, Punct, Token};
 
 /// What is said of a type in parentheses before an operand.
-const CAST: &str = "there are no casts; leave it out";
+const CAST: &str =
+    "there are no casts; leave it out, or write & 255 behind the value where a byte is wanted";
 
 /// What is said of a word where a type stands.
 const NO_TYPE: &str = "this word is no type; write int or unsigned";
@@ -66,11 +67,11 @@ static ROWS: [Row; 9] = [
             "_Thread_local",
             "_Atomic",
         ],
-        after: "there is no such word before a declaration; leave it out",
+        after: "there is no such word before a declaration; leave it out, and hand on by a stream what an activation leaves for later ones",
     },
     Row {
         words: &["do"],
-        after: "there is no do; write while, with what comes first once more before it",
+        after: "there is no do; write its body once, and behind it while with the same body",
     },
     Row {
         words: &["switch", "case", "default"],
@@ -236,7 +237,7 @@ fn outside(front: &[Token], mark: Punct) -> Option<&'static str> {
         Punct::Semicolon | Punct::Set | Punct::Comma
             if is_declaration(front) && !is_in_parens(front) => {
             Some(
-                "there are no variables outside functions; declare it in main, or write const int NAME = NUMBER;",
+                "there are no variables outside functions; declare it in main, or write const int NAME = NUMBER; tasks hand on by streams",
             )
         }
         Punct::Star | Punct::BitAnd => of_mark(front, mark),
@@ -275,7 +276,9 @@ fn of_mark(front: &[Token], mark: Punct) -> Option<&'static str> {
             Some("an output item is written STREAM << NAME; turn the arrow round")
         }
         Punct::Star | Punct::BitAnd => {
-            Some("there are no pointers; write an array, and elements of it by their index")
+            Some(
+                "there are no pointers; write an array, and elements of it by their index; functions take and give numbers alone",
+            )
         }
         Punct::Greater if ends_with(front, Kind::Punct(Punct::Minus)) => {
             Some("there are no pointers and no structures; write a variable for each member")

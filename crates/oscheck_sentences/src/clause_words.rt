@@ -14,7 +14,7 @@ static ROWS: [Row; 7] = [
     },
     Row {
         words: &["inout"],
-        after: "there is no clause for both; write input(STREAM >> NAME) and output(STREAM << NAME)",
+        after: "there is no clause for both; write input(STREAM >> NAME) and output(STREAM << OTHER), with two names",
     },
     Row {
         words: &["depend"],

@@ -105,10 +105,12 @@ pub fn of_rule(rule: Rule, at: &At<'_>) -> Sentence {
         ),
         Rule::WrongSize => of_wrong_size(at),
         Rule::OutsideLoop => of(
-            " stands outside a loop of the same function or task: put it into a loop of its own body",
+            " stands outside a loop of the same function or task: put it into a loop of its own body; no task ends a loop of main",
         ),
         Rule::Misplaced => misplaced(at.kind()),
-        Rule::ReturnInTask => plain("return in a task: assign to an output item"),
+        Rule::ReturnInTask => plain(
+            "return in a task: assign to an output item, and put the rest behind else",
+        ),
         Rule::MisplacedStream => of(
             " is a stream, which has no value: read it by a task with an input item",
         ),
@@ -125,7 +127,7 @@ pub fn of_rule(rule: Rule, at: &At<'_>) -> Sentence {
             "no function main of type int without parameters: write int main(void)",
         ),
         Rule::MisplacedWindow => of(
-            " is a window outside the items of a task: name it in a task whose clauses have it",
+            " is a window outside the items of a task: name it in the body of a task whose clauses have it; main sees no elements",
         ),
     }
 }
@@ -150,7 +152,7 @@ fn is_directive(bytes: &[u8], word: &str) -> bool {
 fn of_bytes(bytes: &[u8]) -> Sentence {
     match byte_at(bytes, 0) {
         b'"' => plain(
-            "there are no strings: what a program writes goes through osout, a number for each byte",
+            "there are no strings: what a program writes goes through osout, a number for each byte, and a table is an array that is filled",
         ),
         b'\'' => plain("there are no characters: write the number of the byte, as 65 for A"),
         b'.' => plain("there are no fractions and no members: a number is whole"),
@@ -170,7 +172,9 @@ fn of_bytes(bytes: &[u8]) -> Sentence {
 fn of_number(bytes: &[u8]) -> Sentence {
     match bytes {
         [b'0', ..] | [.., b'u' | b'U'] => plain("a number above 4294967295: use a smaller one"),
-        _ => plain("a number above 2147483647: use a smaller one"),
+        _ => plain(
+            "a number above 2147483647: use a smaller one, or write u behind it, up to 4294967295",
+        ),
     }
 }
 

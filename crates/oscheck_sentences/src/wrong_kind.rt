@@ -14,7 +14,7 @@ fn of_flow(meant: Meant) -> Sentence {
             " is an array of streams, and an item or a tick takes one of them: give its index, as in [0]",
         ),
         _ => of(
-            " is no stream, and an item or a tick begins with one: write STREAM >> NAME, or STREAM << NAME",
+            " is no stream, and an item or a tick begins with one: write STREAM >> NAME, or STREAM << NAME; __attribute__((stream)) declares one",
         ),
     }
 }
