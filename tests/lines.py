@@ -104,6 +104,8 @@ def run_lines(room, page, lines):
     """Runs lines one after the other in one folder; yields those that went wrong, and counts the others."""
     env = os.environ | {"PATH": f"{room}/bin:{os.environ['PATH']}"}
     folder = f"{room}/examples/many" if page.startswith("examples/many") else room
+    # The files that lines would have made which weren't run.
+    missing = set()
     for line in lines:
         bare = re.sub(r"\s+#.*$", "", line)
         if not bare.strip() or bare.startswith("#"):
@@ -116,6 +118,10 @@ def run_lines(room, page, lines):
         tools = wanted_tools(bare)
         if tools:
             print(f"{page}: {bare}: {tools[0]} isn't here")
+            missing |= set(re.findall(r">(\S+)", bare))
+            continue
+        if missing & set(bare.split()):
+            print(f"{page}: {bare}: a line that wasn't run makes what it reads")
             continue
         words = bare
         for form, word in WORDS.items():
